@@ -1,0 +1,4 @@
+pub mod Costs
+pub mod Counting
+pub mod Prices
+pub mod Rules
