@@ -1,0 +1,16 @@
+pub mod BoundLists
+pub mod Checked
+pub mod Depth
+pub mod Distinct
+pub mod Entries
+pub mod FirstLeasts
+pub mod Fixed
+pub mod Kept
+pub mod LawfulBelow
+pub mod Leasts
+pub mod Marked
+pub mod Opened
+pub mod PlanFacts
+pub mod PlanShape
+pub mod Lowering
+pub mod RoundSteps
