@@ -1,0 +1,5 @@
+mod FirstWord
+mod LineLaws
+mod OneMore
+mod Replying
+mod Telling
