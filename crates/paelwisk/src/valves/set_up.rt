@@ -16,9 +16,10 @@ use crate::words::Words;
 use std::alloc::Global;
 use valve::Test;
 
-// What is expected of a price.
+// What is expected of the task of a price.
 const TASK: &str = "the task of a price, a number up to 63";
 
+// What is expected of a price.
 const PRICE: &str = "a price, a number from 1 to 10000";
 
 // A set-up, the states that are asked about, and what is asked after them.
