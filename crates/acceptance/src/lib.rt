@@ -1,4 +1,5 @@
 // Examples that the libraries must get right: a table that is proved as a whole, and tests by subject.
+#![tactic(auto)]
 
 // Best costs of worked examples.
 #[cfg(test)]

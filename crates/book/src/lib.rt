@@ -1,4 +1,5 @@
 // The book: the bounds, marks and kept actions of a planner, and how they change.
+#![tactic(auto)]
 
 // What can be wrong with estimates.
 pub mod faults;

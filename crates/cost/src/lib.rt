@@ -1,4 +1,5 @@
 // Costs, prices, and the rules that count the costs of several outcomes as one.
+#![tactic(auto)]
 
 // A cost, from 0 to the roof, and capped addition.
 pub mod amount;

@@ -1,4 +1,5 @@
 // Sheets that are read into tables and written from them: tests by subject.
+#![tactic(auto)]
 
 // A sheet that the tests share, and tables to read into.
 #[cfg(test)]

@@ -1,4 +1,5 @@
 // The text in which a model, its prices and its best costs are told.
+#![tactic(auto)]
 
 // The lines of a model and of the prices.
 pub mod showing;

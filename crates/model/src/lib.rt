@@ -1,4 +1,5 @@
 // Models: what they mean, how they are asked, how they are read, and the layer Trim.
+#![tactic(auto)]
 
 // A refusal as it is shown: its number and the values that it returns.
 pub mod refusals;

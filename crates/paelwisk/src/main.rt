@@ -1,4 +1,6 @@
 // The command-line tool: reads its input, asks the libraries, and prints what they answer.
+#![tactic(auto)]
+
 use commands::{Command, SheetCommand};
 use failures::Failure;
 use std::{env, io};

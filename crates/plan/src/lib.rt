@@ -1,4 +1,5 @@
 // Plans and best costs: what actions cost by given bounds, and the facts behind the planner.
+#![tactic(auto)]
 
 // What actions cost by given bounds, and the least action cost.
 pub mod actions;

@@ -1,4 +1,5 @@
 // The reader: a sheet read into tables and a price list.
+#![tactic(auto)]
 
 // How large a model is.
 pub mod sizes;

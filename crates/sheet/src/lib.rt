@@ -1,4 +1,5 @@
 // The sheet: the byte format in which models and prices travel, field by field.
+#![tactic(auto)]
 
 // What can be wrong with a sheet.
 pub mod faults;

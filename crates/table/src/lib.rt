@@ -1,4 +1,5 @@
 // The table model: a model that reads three tables.
+#![tactic(auto)]
 
 // The tables, and what they answer.
 pub mod tables;

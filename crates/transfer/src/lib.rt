@@ -1,5 +1,6 @@
 // Sheets and models carried over: a sheet read into tables of its own, a sheet read and written
 // again, and a model written and read again.
+#![tactic(auto)]
 
 // Why nothing is carried over.
 pub mod faults;

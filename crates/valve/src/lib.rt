@@ -1,4 +1,5 @@
 // The valve model: one of several candidates is at fault, and tests find out which.
+#![tactic(auto)]
 
 // What can be wrong with a set-up.
 pub mod faults;

@@ -1,4 +1,5 @@
 // Writing a table model and its prices as a sheet.
+#![tactic(auto)]
 
 // Why no sheet is written.
 pub mod faults;
