@@ -1,11 +1,11 @@
 // Best costs on models worked out by hand, and what is refused.
 use cost::{Cost, Largest, Price, PriceList, Rule, Sum, Task};
-use model::{Model, ModelFault, Trim, TrimModel};
+use model::{Model, ModelFault, Trim};
 use plan::{BestFault, best_costs};
 use std::process::Abort;
 use std::test::Fail;
-use table::{ActionRow, Span, StateRow, TableModel, TableModelModel};
-use valve::{Test, ValveModel, ValveModelModel};
+use table::{ActionRow, Span, StateRow, TableModel};
+use valve::{Test, ValveModel};
 
 const STATES: [StateRow; 4] = [
     StateRow::Open(Span { first: 0, count: 2 }),

@@ -1,12 +1,11 @@
 // Best costs against a count of all plans of small models.
 use crate::bests::{priced, ring, told};
 use cost::{Cost, Largest, Rule, Sum};
-use model::{Model, Trim, TrimModel};
+use model::{Model, Trim};
 use plan::best_costs;
 use std::process::Abort;
 use std::test::Fail;
-use table::TableModelModel;
-use valve::{Test, ValveModel, ValveModelModel};
+use valve::{Test, ValveModel};
 
 // What stands for a cost that is not known.
 const UNKNOWN: u32 = u32::MAX;

@@ -1,9 +1,9 @@
 // Small table models drawn from a seed, and their best costs against a count of all plans.
 use crate::brute::{Count, check_model, known_at, least_of_all};
 use cost::Cost;
-use model::{Model, Trim, TrimModel, first_fault};
+use model::{Model, Trim, first_fault};
 use std::test::Fail;
-use table::{ActionRow, Span, StateRow, TableModel, TableModelModel};
+use table::{ActionRow, Span, StateRow, TableModel};
 
 // A seed from which numbers are drawn.
 #[derive(Clone, Copy)]

@@ -1,6 +1,6 @@
 // Each fault of a model at its edge, and of two faults the earlier one.
-use model::{ModelFault, Trim, TrimModel, first_fault};
-use table::{ActionRow, Span, StateRow, TableModel, TableModelModel};
+use model::{ModelFault, Trim, first_fault};
+use table::{ActionRow, Span, StateRow, TableModel};
 
 const END: StateRow = StateRow::End(0);
 

@@ -7,8 +7,7 @@ use model::Model;
 use plan::best_costs;
 use std::process::Abort;
 use std::test::Fail;
-use table::TableModelModel;
-use valve::{Test, ValveModel, ValveModelModel};
+use valve::{Test, ValveModel};
 
 // How a search ends, in numbers.
 #[derive(Clone, Copy, PartialEq, Eq, Debug)]

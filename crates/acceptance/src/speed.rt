@@ -5,7 +5,7 @@ use plan::best_costs;
 use std::alloc::{AllocError, Global};
 use std::process::Abort;
 use std::test::Fail;
-use table::{ActionRow, Span, StateRow, TableModel, TableModelModel};
+use table::{ActionRow, Span, StateRow, TableModel};
 
 // The open states are 20 layers of 204, and the last 16 states are ends.
 fn rows(heap: Global) -> Result<Vec<StateRow>, AllocError> {

@@ -1,6 +1,6 @@
 // The table model and Trim over it: what they answer, also about what is not there.
-use model::{Model, Trim, TrimModel};
-use table::{ActionRow, Span, StateRow, TableModel, TableModelModel};
+use model::{Model, Trim};
+use table::{ActionRow, Span, StateRow, TableModel};
 
 fn span(first: u32, count: u32) -> Span {
     Span { first, count }

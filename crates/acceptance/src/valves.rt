@@ -1,7 +1,7 @@
 // The valve model: the worked example, and each refusal of a set-up at its edge.
 use model::{Model, Refusal, Values};
 use std::test::Fail;
-use valve::{Split, Test, ValveFault, ValveModel, ValveModelModel};
+use valve::{Split, Test, ValveFault, ValveModel};
 
 fn test(task: u8, set: u16) -> Test {
     Test { task, set }

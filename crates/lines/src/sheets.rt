@@ -8,7 +8,6 @@ use crate::showing::show;
 use cost::{Cost, Rule};
 use plan::best_costs;
 use std::alloc::Global;
-use table::TableModelModel;
 use transfer::{TransferFault, load};
 
 // The model and the prices of a sheet.

@@ -9,7 +9,7 @@ use cost::{PriceList, Task};
 use model::Model;
 use std::alloc::Global;
 use std::fmt;
-use table::{TableModel, TableModelModel};
+use table::TableModel;
 
 // The number of states, the prices other than 1, and the states with their actions.
 pub fn show(heap: Global, model: &TableModel<'_>, prices: &PriceList) -> Result<String, fmt::Error>

@@ -3,7 +3,7 @@ ghost use Rattle.std.specs.Prelude.{◌≡◌};
 ghost use Rattle.model.specs.Meaning.{outcomes, action_at};
 ghost use Rattle.model.specs.Trims.{lists, trimmed};
 
-use crate::questions::Model;
+use crate::questions::Model as WorkModel;
 
 // The model under it, with each action barred that lists its own state as an outcome.
 #[derive(Clone, Copy, Drop, Debug)]
@@ -12,7 +12,7 @@ pub struct Trim<M> {
 }
 
 // Whether an action lists its own state as an outcome.
-fn lists_itself<M: Model>(model: &M, state: usize, action: usize) -> bool
+fn lists_itself<M: WorkModel>(model: &M, state: usize, action: usize) -> bool
     ensures { result ≡ lists state (outcomes (action_at (M.Model.meaning model.now) state action)) }
 {
     for place in 0..model.outcomes(state, action) {
@@ -23,7 +23,7 @@ fn lists_itself<M: Model>(model: &M, state: usize, action: usize) -> bool
     false
 }
 
-pub impl<M: Model> Model for Trim<M> as TrimModel {
+impl<M: WorkModel> WorkModel for Trim<M> {
     ghost meaning = { λ t. trimmed (M.Model.meaning t.under) };
 
     fn states(&self) -> usize {

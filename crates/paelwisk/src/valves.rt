@@ -11,7 +11,7 @@ use crate::words::Words;
 use cost::Cost;
 use model::Model;
 use std::alloc::Global;
-use valve::{ValveModel, ValveModelModel};
+use valve::ValveModel;
 
 mod answers;
 mod asks;

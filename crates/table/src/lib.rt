@@ -4,4 +4,4 @@
 // The tables, and what they answer.
 pub mod tables;
 
-pub use tables::{ActionRow, Span, StateRow, TableModel, TableModelModel};
+pub use tables::{ActionRow, Span, StateRow, TableModel};

@@ -9,4 +9,4 @@ pub mod valves;
 pub mod facts;
 
 pub use faults::ValveFault;
-pub use valves::{Split, Test, ValveModel, ValveModelModel};
+pub use valves::{Split, Test, ValveModel};

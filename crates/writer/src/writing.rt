@@ -14,7 +14,7 @@ use crate::places::{put_head, put_two};
 use cost::PriceList;
 use model::{Model, first_fault};
 use sheet::SheetFault;
-use table::{TableModel, TableModelModel};
+use table::TableModel;
 
 // Writes the sheet of a model and its prices to the first bytes, tells how many those are, and
 // leaves the others. Where it refuses it leaves all bytes.

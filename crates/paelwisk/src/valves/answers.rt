@@ -7,7 +7,7 @@ ghost use Rattle.paelwisk.specs.Answers.{action_of, Tells, Untold, Told, NotTold
 use crate::failures::{Failure, NoState};
 use model::Model;
 use std::alloc::{AllocError, Global};
-use valve::{Split, ValveModel, ValveModelModel};
+use valve::{Split, ValveModel};
 
 // A state that is an end has a cost; any other has, for each test, what it does there, and nothing
 // where it is barred.

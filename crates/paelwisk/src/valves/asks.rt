@@ -10,7 +10,7 @@ ghost use Rattle.paelwisk.specs.Asks.{rule_name, priced, best_text, AllBest, Rep
 use cost::{Cost, Largest, Price, PriceList, Sum, Task};
 use plan::best_costs;
 use std::fmt;
-use valve::{ValveModel, ValveModelModel};
+use valve::ValveModel;
 
 // The rules that best costs can be counted by.
 #[derive(Clone, Copy, PartialEq, Eq, Debug)]

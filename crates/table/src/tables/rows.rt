@@ -30,7 +30,7 @@ impl TableModel<'_> {
     }
 }
 
-pub impl Model for TableModel<'_> as TableModelModel {
+impl Model for TableModel<'_> {
     ghost meaning = { meaning_of };
 
     fn states(&self) -> usize {

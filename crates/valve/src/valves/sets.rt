@@ -29,7 +29,7 @@ impl ValveModel {
     }
 }
 
-pub impl Model for ValveModel as ValveModelModel {
+impl Model for ValveModel {
     ghost meaning = { meaning_of };
 
     fn states(&self) -> usize {

@@ -10,7 +10,7 @@ pub loop-place-preserved : goal.loop-place-preserved
 loop-place-preserved g c =
     let m = g.M.Model.meaning c.args.model.now in
     none_more (outcome_fault m c.loop-state.state c.loop-action.action) c.loop-place.place c.loop-place.invariant
-    (sym c.in-default-faulty-outcome.ensures)
+    (sym c.in_default-faulty_outcome.ensures)
 
 pub loop-action-preserved : goal.loop-action-preserved
 loop-action-preserved g c =
@@ -19,7 +19,7 @@ loop-action-preserved g c =
     let a = c.loop-action.action in
     let end : c.loop-place.place ≡ length (outcomes (action_at m s a)) = omega arith in
     none_more (action_fault m s) a c.loop-action.invariant
-    (action_clear m s a (sym c.in-default-faulty-action.ensures) (subst (λ n. first_below (outcome_fault m s a) n ≡ None) end c.loop-place.invariant))
+    (action_clear m s a (sym c.in_default-faulty_action.ensures) (subst (λ n. first_below (outcome_fault m s a) n ≡ None) end c.loop-place.invariant))
 
 pub loop-state-preserved : goal.loop-state-preserved
 loop-state-preserved g c =
@@ -27,7 +27,7 @@ loop-state-preserved g c =
     let s = c.loop-state.state in
     let end : c.loop-action.action ≡ length (actions (state_at m s)) = omega arith in
     none_more (state_fault m) s c.loop-state.invariant
-    (state_clear m s (sym c.in-default.ensures) (subst (λ n. first_below (action_fault m s) n ≡ None) end c.loop-action.invariant))
+    (state_clear m s (sym c.in_default.ensures) (subst (λ n. first_below (action_fault m s) n ≡ None) end c.loop-action.invariant))
 
 pub returns-in-Some : goal.returns-in-Some
 returns-in-Some g c =
@@ -38,26 +38,26 @@ returns-in-Some g c =
     let value = state_met m (omega arith) (omega arith) s f (omega arith) c.loop-state.invariant of-state in
     record { value = value; first = answer_first m _ value }
 
-pub returns-in-Some-faulty-action : goal.returns-in-Some-faulty-action
-returns-in-Some-faulty-action g c =
+pub returns-in-Some-faulty_action : goal.returns-in-Some-faulty_action
+returns-in-Some-faulty_action g c =
     let m = g.M.Model.meaning c.args.model.now in
     let s = c.loop-state.state in
     let a = c.loop-action.action in
-    let f = c.in-Some-faulty-action.fault in
-    let met = first_of_left (action_head m s a) _ f (sym c.in-Some-faulty-action.ensures) in
-    let of-state = action_met m s a f (sym c.in-default.ensures) (omega arith) c.loop-action.invariant met in
+    let f = c.in-Some-faulty_action.fault in
+    let met = first_of_left (action_head m s a) _ f (sym c.in-Some-faulty_action.ensures) in
+    let of-state = action_met m s a f (sym c.in_default.ensures) (omega arith) c.loop-action.invariant met in
     let value = state_met m (omega arith) (omega arith) s f (omega arith) c.loop-state.invariant of-state in
     record { value = value; first = answer_first m _ value }
 
-pub returns-in-Some-faulty-outcome : goal.returns-in-Some-faulty-outcome
-returns-in-Some-faulty-outcome g c =
+pub returns-in-Some-faulty_outcome : goal.returns-in-Some-faulty_outcome
+returns-in-Some-faulty_outcome g c =
     let m = g.M.Model.meaning c.args.model.now in
     let s = c.loop-state.state in
     let a = c.loop-action.action in
     let k = c.loop-place.place in
-    let f = c.in-Some-faulty-outcome.fault in
-    let met = outcome_met m s a k f (sym c.in-default-faulty-action.ensures) (omega arith) c.loop-place.invariant (sym c.in-Some-faulty-outcome.ensures) in
-    let of-state = action_met m s a f (sym c.in-default.ensures) (omega arith) c.loop-action.invariant met in
+    let f = c.in-Some-faulty_outcome.fault in
+    let met = outcome_met m s a k f (sym c.in_default-faulty_action.ensures) (omega arith) c.loop-place.invariant (sym c.in-Some-faulty_outcome.ensures) in
+    let of-state = action_met m s a f (sym c.in_default.ensures) (omega arith) c.loop-action.invariant met in
     let value = state_met m (omega arith) (omega arith) s f (omega arith) c.loop-state.invariant of-state in
     record { value = value; first = answer_first m _ value }
 

@@ -6,4 +6,4 @@ pub returns : goal.returns
 returns c =
     let l = c.args.self.now in
     let within : c.args.task.number < length l.prices = omega (arith, l.whole, c.args.task.within) in
-    record { value = figure_read l c.args.task.number c.index-self-task.result within; in-range = figures_in_range l }
+    record { value = figure_read l c.args.task.number c.index-self-task.result within; in_range = figures_in_range l }

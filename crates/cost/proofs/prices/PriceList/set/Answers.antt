@@ -13,6 +13,6 @@ returns c =
     let within : t < length (figures l) = omega (arith, length_figures l, c.args.task.within) in
     record {
       after = after;
-      that-one = ap (λ ps. get_or ps t 0) after ∙ get_or-set_same (figures l) t p.value 0 within;
+      that_one = ap (λ ps. get_or ps t 0) after ∙ get_or-set_same (figures l) t p.value 0 within;
       others = λ u ne. ap (λ ps. get_or ps u 0) after ∙ get_or-set_other (figures l) t u p.value 0 ne;
     }

@@ -1,6 +1,6 @@
 use Rattle.std.proofs.Common.{sym, ◌∙◌}
 use Rattle.model.proofs.Trimmed.{action_count_trimmed}
-use Rattle.model.proofs.layers.TrimModel.actions.Goals as goal
+use Rattle.model.proofs.layers.TrimWorkModel.actions.Goals as goal
 
 pub returns : goal.returns
 returns g c =

@@ -1,7 +1,7 @@
 use Rattle.std.proofs.Common.{sym, ap, ◌∙◌}
 use Rattle.model.specs.Meaning.{is_end, state_at}
 use Rattle.model.proofs.Trimmed.{state_trimmed, trim_is_end}
-use Rattle.model.proofs.layers.TrimModel.is_end.Goals as goal
+use Rattle.model.proofs.layers.TrimWorkModel.is_end.Goals as goal
 
 pub returns : goal.returns
 returns g c =

@@ -1,6 +1,6 @@
 use Rattle.std.proofs.Common.{sym, ◌∙◌}
 use Rattle.model.proofs.Trimmed.{length_trimmed}
-use Rattle.model.proofs.layers.TrimModel.states.Goals as goal
+use Rattle.model.proofs.layers.TrimWorkModel.states.Goals as goal
 
 pub returns : goal.returns
 returns g c =

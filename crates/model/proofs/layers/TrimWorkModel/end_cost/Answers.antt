@@ -1,7 +1,7 @@
 use Rattle.std.proofs.Common.{sym, ap, ◌∙◌}
 use Rattle.model.specs.Meaning.{end_cost, state_at}
 use Rattle.model.proofs.Trimmed.{state_trimmed, trim_end_cost}
-use Rattle.model.proofs.layers.TrimModel.end_cost.Goals as goal
+use Rattle.model.proofs.layers.TrimWorkModel.end_cost.Goals as goal
 
 pub returns : goal.returns
 returns g c =

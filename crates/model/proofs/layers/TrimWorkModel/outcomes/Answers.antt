@@ -1,0 +1,14 @@
+use Rattle.std.proofs.Common.{length, sym, ap, ◌∙◌}
+use Rattle.model.specs.Meaning.{outcomes, action_at}
+use Rattle.model.proofs.Trimmed.{action_listed, action_unlisted}
+use Rattle.model.proofs.layers.TrimWorkModel.outcomes.Goals as goal
+
+pub returns-then-lists_itself : goal.returns-then-lists_itself
+returns-then-lists_itself g c =
+    let m = g.M.Model.meaning c.args.self.now.under in
+    sym (ap (λ x. length (outcomes x)) (action_listed m c.args.state c.args.action (sym c.lists_itself.ensures ∙ c.if-lists_itself.true)))
+
+pub returns-else-lists_itself : goal.returns-else-lists_itself
+returns-else-lists_itself g c =
+    let m = g.M.Model.meaning c.args.self.now.under in
+    c.outcomes.ensures ∙ sym (ap (λ x. length (outcomes x)) (action_unlisted m c.args.state c.args.action (sym c.lists_itself.ensures ∙ c.if-lists_itself.false)))
