@@ -5,7 +5,7 @@ ghost use Rattle.model.specs.Meaning.{Barred, state_at, action_at};
 ghost use Rattle.table.specs.Tables.{meaning_of, table_state, table_action};
 
 use super::{ActionRow, Span, StateRow, TableModel};
-use model::Model;
+use model::Model as WorkModel;
 
 impl TableModel<'_> {
     // The row of a state; past the last, a row without actions.
@@ -30,7 +30,7 @@ impl TableModel<'_> {
     }
 }
 
-impl Model for TableModel<'_> {
+impl WorkModel for TableModel<'_> {
     ghost meaning = { meaning_of };
 
     fn states(&self) -> usize {

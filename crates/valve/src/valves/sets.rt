@@ -5,7 +5,7 @@ ghost use Rattle.model.specs.Meaning.{Barred, action_at};
 ghost use Rattle.valve.specs.Valves.{meaning_of, split_action};
 
 use super::{Split, Test, ValveModel};
-use model::Model;
+use model::Model as WorkModel;
 
 impl ValveModel {
     // What a test does in a state; none where it is barred or not there.
@@ -29,7 +29,7 @@ impl ValveModel {
     }
 }
 
-impl Model for ValveModel {
+impl WorkModel for ValveModel {
     ghost meaning = { meaning_of };
 
     fn states(&self) -> usize {

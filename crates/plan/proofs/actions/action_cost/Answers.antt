@@ -28,4 +28,4 @@ returns g c =
     let price = c.price.ensures ∙ ap (price_of (figures c.args.prices.now)) c.task.ensures in
     c.plus.ensures.sum
     ∙ ap₂ capped price read
-    ∙ sym (ap (cost_by g.R.Rule.value (figures c.args.prices.now) v) (free_shape x (sym c.is-free.ensures ∙ c.if-not-is-free.false)))
+    ∙ sym (ap (cost_by g.R.Rule.value (figures c.args.prices.now) v) (free_shape x (sym c.is_free.ensures ∙ c.if-not-is_free.false)))

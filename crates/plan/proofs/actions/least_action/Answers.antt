@@ -5,7 +5,7 @@ use Rattle.plan.specs.Bounds.{bounds_of, action_cost, least_below, FirstLeast}
 use Rattle.plan.specs.declared.actions.Least.{Least}
 use Rattle.plan.proofs.FirstLeasts.{barred_more, dearer_more, first_more, cheaper_more}
 use Rattle.plan.proofs.actions.least_action.Goals as goal
-use Rattle.plan.proofs.actions.least_action.Goals.{then-is-free+then-is-none, then-is-none-via-then-is-none, then-is-none-via-else-is-none+then-get, then-is-free+else-is-none+else-get, else-is-free}
+use Rattle.plan.proofs.actions.least_action.Goals.{then-is_free+then-is_none, then-is_none-via-then-is_none, then-is_none-via-else-is_none+then-get, then-is_free+else-is_none+else-get, else-is_free}
 
 none_of : (o : Option ℕ) → is_some o ≡ false → o ≡ None
 none_of None e = refl
@@ -22,23 +22,23 @@ loop-action-preserved g c =
     let f = action_cost m value prices v s in
     let P : Least → Type 0 = λ l. (l.cost.value ≡ least_below f (k + 1)) × FirstLeast m value prices v s (k + 1) l.action in
     let inv = c.loop-action.invariant in
-    elim c.if-is-free.branch [
-      | then-is-free+then-is-none w ↦ (
-          let free = sym c.is-free.ensures ∙ w.if-is-free.true in
+    elim c.if-is_free.branch [
+      | then-is_free+then-is_none w ↦ (
+          let free = sym c.is_free.ensures ∙ w.if-is_free.true in
           let more : (f k ≡ least_below f (k + 1)) × FirstLeast m value prices v s (k + 1) (Some k) =
-          elim w.then-is-none.branch [
-            | then-is-none-via-then-is-none w' ↦ first_more m value prices v s k (subst (FirstLeast m value prices v s k) (none_of c.loop-action.least.action (w.is-none.ensures ∙ ap not w'.if-is-none.true)) inv.1) free
-            | then-is-none-via-else-is-none+then-get w' ↦ cheaper_more m value prices v s k free (omega (arith, w'.get.ensures, w'.get-else-is-none.ensures, w'.if-get.true, w.action-cost-cost.ensures, inv.0))
+          elim w.then-is_none.branch [
+            | then-is_none-via-then-is_none w' ↦ first_more m value prices v s k (subst (FirstLeast m value prices v s k) (none_of c.loop-action.least.action (w.is_none.ensures ∙ ap not w'.if-is_none.true)) inv.1) free
+            | then-is_none-via-else-is_none+then-get w' ↦ cheaper_more m value prices v s k free (omega (arith, w'.get.ensures, w'.get-else-is_none.ensures, w'.if-get.true, w.action_cost-cost.ensures, inv.0))
           ] in
-          subst P (sym w.least-is) (w.action-cost-cost.ensures ∙ more.0, more.1)
+          subst P (sym w.least-is) (w.action_cost-cost.ensures ∙ more.0, more.1)
           )
-      | then-is-free+else-is-none+else-get w ↦ (
-          let some = w.is-none.ensures ∙ ap not w.if-is-none.false in
-          let more = dearer_more m value prices v s k c.loop-action.least.action inv.1 (λ e. both_ways (is_some c.loop-action.least.action) (ap is_some e) some) (omega (arith, w.get.ensures, w.get-else-is-none.ensures, w.if-get.false, w.action-cost-cost.ensures, inv.0)) in
+      | then-is_free+else-is_none+else-get w ↦ (
+          let some = w.is_none.ensures ∙ ap not w.if-is_none.false in
+          let more = dearer_more m value prices v s k c.loop-action.least.action inv.1 (λ e. both_ways (is_some c.loop-action.least.action) (ap is_some e) some) (omega (arith, w.get.ensures, w.get-else-is_none.ensures, w.if-get.false, w.action_cost-cost.ensures, inv.0)) in
           subst P (sym w.least-is) (inv.0 ∙ more.0, more.1)
           )
-      | else-is-free w ↦ (
-          let more = barred_more m value prices v s k c.loop-action.least.action inv.1 (sym c.is-free.ensures ∙ w.if-is-free.false) in
+      | else-is_free w ↦ (
+          let more = barred_more m value prices v s k c.loop-action.least.action inv.1 (sym c.is_free.ensures ∙ w.if-is_free.false) in
           subst P (sym w.least-is) (inv.0 ∙ more.0, more.1)
           )
     ]

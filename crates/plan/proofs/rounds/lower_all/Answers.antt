@@ -16,7 +16,7 @@ loop-state-preserved g c =
     let old = c.args.costs.now in
     let new = c.loop-state.costs in
     let s = c.loop-state.state in
-    let least = c.least-action.result.cost in
+    let least = c.least_action.result.cost in
     let there : s < length m = omega arith in
     let room : length m ≤ length new = omega arith in
     let read : c.index-costs-state.result.value ≡ bounds_of new s = ap (λ (x : Cost). x.value) c.index-costs-state.is ∙ bounds_read new s c.index-costs-state.result (omega arith) in
@@ -24,11 +24,11 @@ loop-state-preserved g c =
     let range = figures_in_range c.args.prices.now in
     elim c.if-get.branch [
       | then-get w ↦ (
-          let turn = come_lowered m value prices c.requires.opens lawful range old new s there c.loop-state.lowered c.loop-state.invariant least room c.least-action.ensures.cost (omega (arith, w.if-get.true, read)) in
+          let turn = come_lowered m value prices c.requires.opens lawful range old new s there c.loop-state.lowered c.loop-state.invariant least room c.least_action.ensures.cost (omega (arith, w.if-get.true, read)) in
           subst (λ x. Come m value prices old x c.if-get.lowered (s + 1)) (sym w.costs-is) (subst (λ b. Come m value prices old (set new s least) b (s + 1)) (sym w.lowered-is) turn)
           )
       | else-get w ↦ (
-          let turn = come_kept m value prices c.requires.opens lawful range old new s there c.loop-state.lowered c.loop-state.invariant (omega (arith, w.if-get.false, read, c.least-action.ensures.cost)) in
+          let turn = come_kept m value prices c.requires.opens lawful range old new s there c.loop-state.lowered c.loop-state.invariant (omega (arith, w.if-get.false, read, c.least_action.ensures.cost)) in
           subst (λ x. Come m value prices old x c.if-get.lowered (s + 1)) (sym w.costs-is) (subst (λ b. Come m value prices old new b (s + 1)) (sym w.lowered-is) turn)
           )
     ]

@@ -13,10 +13,10 @@ loop-state-preserved g c =
     let m = g.M.Model.meaning c.args.model.now in
     let cs = c.loop-state.costs in
     let s = c.loop-state.state in
-    let top = c.highest-cost.result in
+    let top = c.highest_cost.result in
     let there : s < length m = omega arith in
     let room : s < length cs = omega arith in
-    let here : bounds_of (set cs s top) s ≡ highest (state_at m s) = bounds_set_here cs s top room ∙ c.highest-cost.ensures ∙ highest_small m c.requires.0 s there in (
+    let here : bounds_of (set cs s top) s ≡ highest (state_at m s) = bounds_set_here cs s top room ∙ c.highest_cost.ensures ∙ highest_small m c.requires.opens s there in (
       (λ u l.
           ⊎_elim
           (λ same. subst (λ i. bounds_of (set cs s top) i ≡ highest (state_at m i)) (sym same) here)

@@ -14,6 +14,6 @@ pub returns : goal.returns
 returns c =
     let b = c.args.bytes.now in
     let whole : drop 3 b ≡ take (length b - 3) (drop 3 b) = sym (take_rest b 3) in
-    field_first b c.split-at.result.0.now c.split-at.result.1.now (omega (arith, ltb-false)) (omega (arith, (c.type-inv.bytes 2).fits))
-    (omega (arith, c.split-at.ensures.front-len))
-    (whole ∙ c.split-at.ensures.by_index.0)
+    field_first b c.split_at.result.0.now c.split_at.result.1.now (omega (arith, ltb-false)) (omega (arith, (c.type_inv.bytes 2).fits))
+    (omega (arith, c.split_at.ensures.front_len))
+    (whole ∙ c.split_at.ensures.by_index.0)

@@ -11,7 +11,7 @@ returns-then-outcome-lowest c =
     let k = c.loop-place.place in
     let there : k < length os = omega (arith, length_outcomes c.args.body.now) in
     let wrong : (get_or os k 0 < c.loop-place.lowest) ⊎ (c.args.count ≤ get_or os k 0) =
-    ⊎_elim (λ l. inl (omega (arith, c.from-outcome.ensures, c.outcome-in.ensures))) (λ l. inr (omega (arith, c.from-outcome.ensures, c.outcome-in.ensures))) c.then-outcome-lowest.either in
+    ⊎_elim (λ l. inl (omega (arith, c.from-outcome.ensures, c.outcome_in.ensures))) (λ l. inr (omega (arith, c.from-outcome.ensures, c.outcome_in.ensures))) c.then-outcome-lowest.either in
     sym (rise_fails c.args.count c.loop-place.lowest os k there wrong) ∙ c.loop-place.invariant
 
 pub loop-place-preserved : goal.loop-place-preserved
@@ -20,7 +20,7 @@ loop-place-preserved c =
     let k = c.loop-place.place in
     let there : k < length os = omega (arith, length_outcomes c.args.body.now) in
     let more = rise_more c.args.count c.loop-place.lowest os k there (omega arith) (omega arith) in
-    ap (λ o. rising c.args.count (o + 1) (drop (k + 1) os)) (c.from-outcome.ensures ∙ c.outcome-in.ensures) ∙ sym more ∙ c.loop-place.invariant
+    ap (λ o. rising c.args.count (o + 1) (drop (k + 1) os)) (c.from-outcome.ensures ∙ c.outcome_in.ensures) ∙ sym more ∙ c.loop-place.invariant
 
 pub returns : goal.returns
 returns c =

@@ -4,14 +4,14 @@ use Rattle.table.specs.Tables.{part}
 use Rattle.table.proofs.Parts.{part_fits, part_read}
 use Rattle.table.proofs.tables.Span.entry.Goals as goal
 
-pub overflow-add-result : goal.overflow-add-result
-overflow-add-result g c =
+pub overflow_add-result : goal.overflow_add-result
+overflow_add-result g c =
     let h : c.args.place < length (part c.args.table.now c.args.self) = omega arith in
     let f = part_fits c.args.table.now c.args.self c.args.place h in
     search rules
 
-pub offset-bounds-table-self : goal.offset-bounds-table-self
-offset-bounds-table-self g c =
+pub offset_bounds-table-self : goal.offset_bounds-table-self
+offset_bounds-table-self g c =
     let h : c.args.place < length (part c.args.table.now c.args.self) = omega arith in
     omega (arith, part_fits c.args.table.now c.args.self c.args.place h)
 

@@ -11,8 +11,8 @@ bounds-self-state c =
     let t = c.args.self.now in
     omega (arith, length-map t.states.now (table_state t.actions.now t.outcomes.now))
 
-pub offset-bounds-self-state : goal.offset-bounds-self-state
-offset-bounds-self-state c =
+pub offset_bounds-self-state : goal.offset_bounds-self-state
+offset_bounds-self-state c =
     let t = c.args.self.now in
     let within : c.args.state < length t.states.now = omega (arith, length-map t.states.now (table_state t.actions.now t.outcomes.now)) in
     search rules

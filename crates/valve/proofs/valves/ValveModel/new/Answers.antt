@@ -12,18 +12,18 @@ returns-in-Some c =
     let met = test_met rs ts (omega arith) (omega arith) (omega arith) (omega arith) c.in-Some.fault (sym c.in-Some.ensures) in
     record { value = met; first = fault_first rs ts _ met; opens = tt }
 
-pub returns-in-Some-faulty-repair : goal.returns-in-Some-faulty-repair
-returns-in-Some-faulty-repair c =
+pub returns-in-Some-faulty_repair : goal.returns-in-Some-faulty_repair
+returns-in-Some-faulty_repair c =
     let rs = c.args.repairs.now in
     let ts = c.args.tests.now in
-    let met = repair_met rs ts (omega arith) (omega arith) (omega arith) (omega arith) c.in-Some-faulty-repair.fault (sym c.in-default.ensures) (sym c.in-Some-faulty-repair.ensures) in
+    let met = repair_met rs ts (omega arith) (omega arith) (omega arith) (omega arith) c.in-Some-faulty_repair.fault (sym c.in_default.ensures) (sym c.in-Some-faulty_repair.ensures) in
     record { value = met; first = fault_first rs ts _ met; opens = tt }
 
 pub returns : goal.returns
 returns c =
     let rs = c.args.repairs.now in
     let ts = c.args.tests.now in
-    let clear = all_clear rs ts (omega arith) (omega arith) (omega arith) (omega arith) (sym c.in-default.ensures) (sym c.in-default-faulty-repair.ensures) in
+    let clear = all_clear rs ts (omega arith) (omega arith) (omega arith) (omega arith) (sym c.in_default.ensures) (sym c.in_default-faulty_repair.ensures) in
     let model : ValveModel = record {
       candidates = length rs;
       repairs = c.held.result;

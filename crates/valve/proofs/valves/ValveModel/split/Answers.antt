@@ -10,8 +10,8 @@ use Rattle.valve.proofs.valves.ValveModel.split.Goals.{then-inside-eq0-via-then-
 pub returns-then-actions-test : goal.returns-then-actions-test
 returns-then-actions-test c = past_actions c.args.self.now c.args.state c.args.test (omega arith)
 
-pub offset-bounds-self-test : goal.offset-bounds-self-test
-offset-bounds-self-test c =
+pub offset_bounds-self-test : goal.offset_bounds-self-test
+offset_bounds-self-test c =
     let v = c.args.self.now in
     let h = has_test v c.args.state c.args.test (omega arith) in
     let few = count_few v in
@@ -27,8 +27,8 @@ bounds-self-test-2 c =
     let v = c.args.self.now in
     omega (arith, count_few v, has_test v c.args.state c.args.test (omega arith))
 
-pub overflow-sub-outside : goal.overflow-sub-outside
-overflow-sub-outside c = and_le_l c.args.state (test_at c.args.self.now.tests c.args.test).set
+pub overflow_sub-outside : goal.overflow_sub-outside
+overflow_sub-outside c = and_le_l c.args.state (test_at c.args.self.now.tests c.args.test).set
 
 pub returns-then-inside-eq0 : goal.returns-then-inside-eq0
 returns-then-inside-eq0 c =

@@ -1,7 +1,7 @@
 use Rattle.std.proofs.Common.{sym, ◌∙◌, arith}
 use Rattle.std.proofs.lemmas.Nat.{one_shl}
 use Rattle.valve.proofs.ValveStates.{candidates_few, length_meaning}
-use Rattle.valve.proofs.valves.sets.ValveModelModel.states.Goals as goal
+use Rattle.valve.proofs.valves.sets.ValveModelWorkModel.states.Goals as goal
 
 pub returns : goal.returns
 returns c =

@@ -2,7 +2,7 @@ use Rattle.std.proofs.Common.{length, sym, ap, ◌∙◌}
 use Rattle.std.proofs.lemmas.List.{length-map}
 use Rattle.model.specs.Meaning.{actions}
 use Rattle.table.specs.Tables.{table_action, part}
-use Rattle.table.proofs.tables.rows.TableModelModel.actions.Goals as goal
+use Rattle.table.proofs.tables.rows.TableModelWorkModel.actions.Goals as goal
 
 pub returns-in-Open : goal.returns-in-Open
 returns-in-Open c =

@@ -3,8 +3,8 @@ use lib.Count.{count_trailing_zeros}
 use Rattle.std.proofs.lemmas.List.{get_or-take}
 use Rattle.model.specs.Meaning.{end_cost}
 use Rattle.valve.proofs.ValveStates.{candidates_few, length_meaning, single_place, single_state, no_end_cost, state_past}
-use Rattle.valve.proofs.valves.sets.ValveModelModel.end_cost.Goals as goal
-use Rattle.valve.proofs.valves.sets.ValveModelModel.end_cost.Goals.{else-state-states-via-then-state-states+else-state-eq1, else-state-states-via-else-state-states}
+use Rattle.valve.proofs.valves.sets.ValveModelWorkModel.end_cost.Goals as goal
+use Rattle.valve.proofs.valves.sets.ValveModelWorkModel.end_cost.Goals.{else-state-states-via-then-state-states+else-state-eq1, else-state-states-via-else-state-states}
 
 pub bounds-self-state : goal.bounds-self-state
 bounds-self-state c =

@@ -1,8 +1,8 @@
 use Rattle.std.proofs.Common.{◌^◌, ◌<◌, length, sym, ap, arith}
 use Rattle.model.specs.Meaning.{actions}
 use Rattle.valve.proofs.ValveStates.{length_meaning, open_actions, end_actions, state_past}
-use Rattle.valve.proofs.valves.sets.ValveModelModel.actions.Goals as goal
-use Rattle.valve.proofs.valves.sets.ValveModelModel.actions.Goals.{else-state-states-via-then-state-states+else-state-ge2, else-state-states-via-else-state-states}
+use Rattle.valve.proofs.valves.sets.ValveModelWorkModel.actions.Goals as goal
+use Rattle.valve.proofs.valves.sets.ValveModelWorkModel.actions.Goals.{else-state-states-via-then-state-states+else-state-ge2, else-state-states-via-else-state-states}
 
 pub returns-then-state-ge2 : goal.returns-then-state-ge2
 returns-then-state-ge2 c =

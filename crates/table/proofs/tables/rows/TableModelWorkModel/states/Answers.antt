@@ -1,7 +1,7 @@
 use Rattle.std.proofs.Common.{sym}
 use Rattle.std.proofs.lemmas.List.{length-map}
 use Rattle.table.specs.Tables.{table_state}
-use Rattle.table.proofs.tables.rows.TableModelModel.states.Goals as goal
+use Rattle.table.proofs.tables.rows.TableModelWorkModel.states.Goals as goal
 
 pub returns : goal.returns
 returns c =

@@ -2,7 +2,7 @@ use Rattle.std.proofs.Common.{◌^◌, ◌<◌, ◌≤◌, sym, ap, ◌∙◌, a
 use Rattle.std.proofs.lemmas.Bool.{le-ltb}
 use Rattle.model.specs.Meaning.{is_end}
 use Rattle.valve.proofs.ValveStates.{length_meaning, is_end_by_ones, state_past}
-use Rattle.valve.proofs.valves.sets.ValveModelModel.is_end.Goals as goal
+use Rattle.valve.proofs.valves.sets.ValveModelWorkModel.is_end.Goals as goal
 
 pub returns-then-state-states : goal.returns-then-state-states
 returns-then-state-states c =
