@@ -40,7 +40,7 @@ pub fn best_costs<M: Model, R: Rule>(
 // Sets the end cost at ends and the roof at open states.
 fn set_highest<M: Model>(model: &M, costs: &mut [Cost])
     requires opens { Opens (M.Model.meaning model.now) }
-    requires model_in_bounds { length (M.Model.meaning model.now) ≤ length costs.old }
+    requires room { length (M.Model.meaning model.now) ≤ length costs.old }
     ensures each { (s : ℕ) → s < length (M.Model.meaning model.now) → bounds_of costs.new s ≡ highest (state_at (M.Model.meaning model.now) s) }
     ensures rest { drop (length (M.Model.meaning model.now)) costs.new ≡ drop (length (M.Model.meaning model.now)) costs.old }
 {

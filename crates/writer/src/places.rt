@@ -17,8 +17,8 @@ pub(crate) fn put(bytes: &mut [u8], at: usize, byte: u8) -> usize
 
 // Writes a number as two bytes, the higher one first.
 pub(crate) fn put_two(bytes: &mut [u8], at: usize, number: usize) -> usize
-    requires at_bound { at + 2 < 2 ^ 64 }
-    requires number_bound { number < 65536 }
+    requires room { at + 2 < 2 ^ 64 }
+    requires small { number < 65536 }
     ensures { Puts bytes.old bytes.new at result (two number) }
 {
     let at = put(bytes, at, (number / 256) as u8);
@@ -27,8 +27,8 @@ pub(crate) fn put_two(bytes: &mut [u8], at: usize, number: usize) -> usize
 
 // Writes what a field begins with: its tag and the length of its body.
 pub(crate) fn put_head(bytes: &mut [u8], at: usize, tag: u8, length: usize) -> usize
-    requires at_bound { at + 3 < 2 ^ 64 }
-    requires length_len_bound { length < 65536 }
+    requires room { at + 3 < 2 ^ 64 }
+    requires small { length < 65536 }
     ensures { Puts bytes.old bytes.new at result (tag ∷ two length) }
 {
     let at = put(bytes, at, tag);

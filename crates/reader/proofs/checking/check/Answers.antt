@@ -16,31 +16,31 @@ use Rattle.reader.proofs.checking.check.Goals as goal
 pub loop-rest-init : goal.loop-rest-init
 loop-rest-init c = ([], (refl, tt, c.start-due.ensures))
 
-pub overflow-sub-place : goal.overflow-sub-place
-overflow-sub-place c =
+pub overflow_sub-place : goal.overflow_sub-place
+overflow_sub-place c =
     let inv = c.loop-rest.invariant in
     omega (arith, ap length inv.1.0, length-append (blocks_bytes inv.0) c.loop-rest.rest.now)
 
-pub returns-in-default : goal.returns-in-default
-returns-in-default c =
+pub returns-in_default : goal.returns-in_default
+returns-in_default c =
     let b = c.args.sheet.now in
     let r = c.loop-rest.rest.now in
     let inv = c.loop-rest.invariant in
-    let small = bytes_small b c.type-inv.sheet in
+    let small = bytes_small b c.type_inv.sheet in
     let some : (r ≡ [] → all_read (after_all beginning inv.0) ≡ false) = λ e. absurd (eqb-false (length r) 0 (sym c.loop-rest-test.ensures) (ap length e)) in
     subst (λ p. Wrong b (Ends p)) (sym (place_left b (blocks_bytes inv.0) r inv.1.0))
-    (ended b small (omega arith) inv.0 inv.1.1 r inv.1.0 c.in-default.ensures some)
+    (ended b small (omega arith) inv.0 inv.1.1 r inv.1.0 c.in_default.ensures some)
 
-pub returns-in-default-of : goal.returns-in-default-of
-returns-in-default-of c =
+pub returns-in_default-of : goal.returns-in_default-of
+returns-in_default-of c =
     let b = c.args.sheet.now in
     let r = c.loop-rest.rest.now in
     let inv = c.loop-rest.invariant in
     let s = c.in-Some.split in
-    let small = bytes_small b c.type-inv.sheet in
+    let small = bytes_small b c.type_inv.sheet in
     let wrong = refused_field b small (omega arith) inv.0 inv.1.1 (block s.tag s.body.now) s.rest.now Tag
     (inv.1.0 ∙ ap (λ l. blocks_bytes inv.0 ++ l) c.in-Some.ensures)
-    (unknown_tag (after_all beginning inv.0) s.tag s.body.now c.in-default-of.ensures) in
+    (unknown_tag (after_all beginning inv.0) s.tag s.body.now c.in_default-of.ensures) in
     subst (λ p. Wrong b (fault_at p Tag)) (sym (place_left b (blocks_bytes inv.0) r inv.1.0)) wrong
 
 pub returns-in-Err : goal.returns-in-Err
@@ -50,7 +50,7 @@ returns-in-Err c =
     let inv = c.loop-rest.invariant in
     let s = c.in-Some.split in
     let f = shown c.in-Some-of.field in
-    let small = bytes_small b c.type-inv.sheet in
+    let small = bytes_small b c.type_inv.sheet in
     let first : r ≡ block_bytes f ++ s.rest.now = c.in-Some.ensures ∙ ap (λ x. block_bytes x ++ s.rest.now) (sym c.in-Some-of.ensures) in
     let wrong = refused_field b small (omega arith) inv.0 inv.1.1 f s.rest.now c.in-Err.cause
     (inv.1.0 ∙ ap (λ l. blocks_bytes inv.0 ++ l) first)
@@ -80,33 +80,33 @@ loop-rest-preserved c =
       ),
     )
 
-whole : (c : goal.Then-is-whole) → c.args.sheet.now ≡ blocks_bytes c.loop-rest.invariant.0
+whole : (c : goal.Then-is_whole) → c.args.sheet.now ≡ blocks_bytes c.loop-rest.invariant.0
 whole c =
     let r = c.loop-rest.rest.now in
     let inv = c.loop-rest.invariant in
     let none : r ≡ [] = nil_from_length r (eqb-true (length r) 0 (sym c.loop-rest-test.ensures)) in
     inv.1.0 ∙ ap (λ l. blocks_bytes inv.0 ++ l) none ∙ append-nil (blocks_bytes inv.0)
 
-pub returns-then-is-whole : goal.returns-then-is-whole
-returns-then-is-whole c =
+pub returns-then-is_whole : goal.returns-then-is_whole
+returns-then-is_whole c =
     let inv = c.loop-rest.invariant in
     record {
       blocks = inv.0;
       same = whole c;
       right = inv.1.1;
       known = inv.1.2;
-      read = sym c.is-whole.ensures ∙ c.if-is-whole.true;
+      read = sym c.is_whole.ensures ∙ c.if-is_whole.true;
       few = omega arith;
     }
 
-pub returns-else-is-whole : goal.returns-else-is-whole
-returns-else-is-whole c =
+pub returns-else-is_whole : goal.returns-else-is_whole
+returns-else-is_whole c =
     let b = c.args.sheet.now in
     let r = c.loop-rest.rest.now in
     let inv = c.loop-rest.invariant in
     let none : r ≡ [] = nil_from_length r (eqb-true (length r) 0 (sym c.loop-rest-test.ensures)) in
     let all : b ≡ blocks_bytes inv.0 = inv.1.0 ∙ ap (λ l. blocks_bytes inv.0 ++ l) none ∙ append-nil (blocks_bytes inv.0) in
-    let small = bytes_small b c.type-inv.sheet in
-    let unread : all_read (after_all beginning inv.0) ≡ false = ap all_read (sym inv.1.2) ∙ sym c.is-whole.ensures ∙ c.if-is-whole.false in
+    let small = bytes_small b c.type_inv.sheet in
+    let unread : all_read (after_all beginning inv.0) ≡ false = ap all_read (sym inv.1.2) ∙ sym c.is_whole.ensures ∙ c.if-is_whole.false in
     subst (λ p. Wrong b (Ends p)) (sym (ap length all))
     (ended b small (omega arith) inv.0 inv.1.1 r inv.1.0 (subst NoField (sym none) (none_short [] (omega arith))) (λ e. unread))

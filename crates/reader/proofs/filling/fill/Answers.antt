@@ -47,31 +47,31 @@ loop-split-preserved c fs e right =
       ),
     )
 
-pub returns-in-default-of : goal.returns-in-default-of
-returns-in-default-of c fs e right =
+pub returns-in_default-of : goal.returns-in_default-of
+returns-in_default-of c fs e right =
     let inv = c.loop-split.invariant fs e right in
     let s = c.in-Some.split in
     absurd (not_stuck fs inv.0 inv.1.0 (block s.tag s.body.now) s.rest.now Tag right inv.1.1.0
     (sym inv.1.1.1 ∙ c.in-Some.ensures)
-    (unknown_tag (after_all beginning inv.0) s.tag s.body.now c.in-default-of.ensures))
+    (unknown_tag (after_all beginning inv.0) s.tag s.body.now c.in_default-of.ensures))
 
-pub returns-in-default-accept : goal.returns-in-default-accept
-returns-in-default-accept c fs e right =
+pub returns-in_default-accept : goal.returns-in_default-accept
+returns-in_default-accept c fs e right =
     let inv = c.loop-split.invariant fs e right in
     let s = c.in-Some.split in
     let f = shown c.in-Some-of.field in
-    absurd (not_stuck fs inv.0 inv.1.0 f s.rest.now c.in-default-accept.field-0 right inv.1.1.0
+    absurd (not_stuck fs inv.0 inv.1.0 f s.rest.now c.in_default-accept.field-0 right inv.1.1.0
     (sym inv.1.1.1 ∙ c.in-Some.ensures ∙ ap (λ x. block_bytes x ++ s.rest.now) (sym c.in-Some-of.ensures))
-    (subst (λ d. cause_of d f ≡ Some c.in-default-accept.field-0) inv.1.1.2 c.in-default-accept.ensures))
+    (subst (λ d. cause_of d f ≡ Some c.in_default-accept.field-0) inv.1.1.2 c.in_default-accept.ensures))
 
-pub put-action-requires : goal.put-action-requires
-put-action-requires c = field_short (stage c.loop-split.due) (shown c.in-Some-of.field) c.in-Ok.ensures.0
+pub put_action-requires : goal.put_action-requires
+put_action-requires c = field_short (stage c.loop-split.due) (shown c.in-Some-of.field) c.in-Ok.ensures.0
 
-pub put-outcomes-requires : goal.put-outcomes-requires
-put-outcomes-requires c = field_short (stage c.loop-split.due) (shown c.in-Some-of.field) c.in-Ok.ensures.0
+pub put_outcomes-requires : goal.put_outcomes-requires
+put_outcomes-requires c = field_short (stage c.loop-split.due) (shown c.in-Some-of.field) c.in-Ok.ensures.0
 
 pub returns : goal.returns
 returns c fs e right =
     let inv = c.loop-split.invariant fs e right in
-    let all = all_taken fs inv.0 inv.1.0 inv.1.1.0 (subst NoField inv.1.1.1 c.in-default.ensures) in
+    let all = all_taken fs inv.0 inv.1.0 inv.1.1.0 (subst NoField inv.1.1.1 c.in_default.ensures) in
     subst (λ l. Filled l c.args.states.now c.args.actions.now c.args.outcomes.now c.loop-split.states c.loop-split.actions c.loop-split.outcomes (figures c.loop-split.prices)) all inv.1.1.3

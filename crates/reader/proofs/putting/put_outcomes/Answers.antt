@@ -16,8 +16,8 @@ loop-place-preserved c =
     let k = c.loop-place.place in
     let at = c.args.due.now.outcomes in
     let there : k < length os = omega (arith, length_outcomes b) in
-    let written : c.put-at.new.list ≡ set c.loop-place.outcomes (at + k) (get_or os k 0) =
-    c.put-at.ensures ∙ ap (set c.loop-place.outcomes (at + k)) c.outcome-in.ensures in
+    let written : c.put_at.new.list ≡ set c.loop-place.outcomes (at + k) (get_or os k 0) =
+    c.put_at.ensures ∙ ap (set c.loop-place.outcomes (at + k)) c.outcome_in.ensures in
     ap (λ xs. sets xs (at + (k + 1)) (drop (k + 1) os)) written
     ∙ ap (λ i. sets (set c.loop-place.outcomes (at + k) (get_or os k 0)) i (drop (k + 1) os)) (sym (add_assoc at k 1))
     ∙ sym (at_drop_more (sets c.loop-place.outcomes (at + k)) os k 0 there)

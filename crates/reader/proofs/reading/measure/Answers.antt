@@ -7,8 +7,8 @@ use Rattle.reader.proofs.reading.measure.Goals as goal
 
 pub returns : goal.returns
 returns c =
-    let d = stage c.in-ok-due.due in
+    let d = stage c.in_ok-due.due in
     let b = c.args.sheet.now in
-    let whole = c.in-ok-due.ensures in
-    let small = bytes_small b c.type-inv.sheet in
+    let whole = c.in_ok-due.ensures in
+    let small = bytes_small b c.type_inv.sheet in
     (model_in whole.blocks, (prices_in whole.blocks, (stood b small d whole, c.counted.ensures ∙ size_counted b small d whole)))

@@ -8,42 +8,42 @@ use Rattle.reader.proofs.reading.read.Goals as goal
 
 pub returns-then-states-due : goal.returns-then-states-due
 returns-then-states-due c =
-    let d = stage c.in-ok-due.due in
+    let d = stage c.in_ok-due.due in
     let b = c.args.sheet.now in
     let room = room_of (tables c.args.states.now c.args.actions.now c.args.outcomes.now (figures c.args.prices.now)) in
     record {
-      read = short_refused b (bytes_small b c.type-inv.sheet) d c.in-ok-due.ensures room 0 (short_states (stage_size d) room c.if-states-due.true);
+      read = short_refused b (bytes_small b c.type_inv.sheet) d c.in_ok-due.ensures room 0 (short_states (stage_size d) room c.if-states-due.true);
       refused = (refl, refl, refl, refl);
     }
 
 pub returns-then-actions-due : goal.returns-then-actions-due
 returns-then-actions-due c =
-    let d = stage c.in-ok-due.due in
+    let d = stage c.in_ok-due.due in
     let b = c.args.sheet.now in
     let room = room_of (tables c.args.states.now c.args.actions.now c.args.outcomes.now (figures c.args.prices.now)) in
     record {
-      read = short_refused b (bytes_small b c.type-inv.sheet) d c.in-ok-due.ensures room 1 (short_actions (stage_size d) room c.if-states-due.false c.if-actions-due.true);
+      read = short_refused b (bytes_small b c.type_inv.sheet) d c.in_ok-due.ensures room 1 (short_actions (stage_size d) room c.if-states-due.false c.if-actions-due.true);
       refused = (refl, refl, refl, refl);
     }
 
 pub returns-then-outcomes-due : goal.returns-then-outcomes-due
 returns-then-outcomes-due c =
-    let d = stage c.in-ok-due.due in
+    let d = stage c.in_ok-due.due in
     let b = c.args.sheet.now in
     let room = room_of (tables c.args.states.now c.args.actions.now c.args.outcomes.now (figures c.args.prices.now)) in
     record {
-      read = short_refused b (bytes_small b c.type-inv.sheet) d c.in-ok-due.ensures room 2 (short_outcomes (stage_size d) room c.if-states-due.false c.if-actions-due.false c.if-outcomes-due.true);
+      read = short_refused b (bytes_small b c.type_inv.sheet) d c.in_ok-due.ensures room 2 (short_outcomes (stage_size d) room c.if-states-due.false c.if-actions-due.false c.if-outcomes-due.true);
       refused = (refl, refl, refl, refl);
     }
 
 pub returns : goal.returns
 returns c =
-    let d = stage c.in-ok-due.due in
+    let d = stage c.in_ok-due.due in
     let b = c.args.sheet.now in
-    let whole = c.in-ok-due.ensures in
+    let whole = c.in_ok-due.ensures in
     let old = tables c.args.states.now c.args.actions.now c.args.outcomes.now (figures c.args.prices.now) in
     let new = tables c.fill.new.states c.fill.new.actions c.fill.new.outcomes (figures c.fill.new.prices) in
-    let into = read_into b (bytes_small b c.type-inv.sheet) d whole old new
+    let into = read_into b (bytes_small b c.type_inv.sheet) d whole old new
     (record { states_fit = c.if-states-due.false; actions_fit = c.if-actions-due.false; outcomes_fit = c.if-outcomes-due.false })
     (c.fill.ensures whole.blocks whole.same whole.right) in
     record {

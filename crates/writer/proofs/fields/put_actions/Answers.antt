@@ -9,8 +9,8 @@ use Rattle.writer.proofs.Limits.{actions_few}
 use Rattle.writer.proofs.Placing.{puts_as}
 use Rattle.writer.proofs.fields.put_actions.Goals as goal
 
-pub put-action-at-requires : goal.put-action-at-requires
-put-action-at-requires g c =
+pub put_action-at-requires : goal.put_action-at-requires
+put_action-at-requires g c =
     let few = actions_few (g.M.Model.meaning c.args.model.now) c.requires.opens c.args.state in
     record { opens = c.requires.opens; room = omega arith }
 
@@ -19,7 +19,7 @@ loop-action-preserved g c =
     let as' = actions (state_at (g.M.Model.meaning c.args.model.now) c.args.state) in
     let k = c.loop-action.action in
     let there : k < length as' = omega arith in
-    (fields_turn action_fields as' k Barred there c.loop-action.invariant.0 c.put-action-at.ensures.puts, omega (arith, c.put-action-at.ensures.few))
+    (fields_turn action_fields as' k Barred there c.loop-action.invariant.0 c.put_action-at.ensures.puts, omega (arith, c.put_action-at.ensures.few))
 
 pub returns : goal.returns
 returns g c =

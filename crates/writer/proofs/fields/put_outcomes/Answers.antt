@@ -8,23 +8,23 @@ use Rattle.writer.proofs.Limits.{outcomes_few, outcome_small}
 use Rattle.writer.proofs.Placing.{puts_as}
 use Rattle.writer.proofs.fields.put_outcomes.Goals as goal
 
-pub put-two-at-requires : goal.put-two-at-requires
-put-two-at-requires g c =
+pub put_two-at-requires : goal.put_two-at-requires
+put_two-at-requires g c =
     let m = g.M.Model.meaning c.args.model.now in
     let s = c.args.state in
     let a = c.args.action in
     let k = c.loop-place.place in
-    let there : k < length (outcomes (action_at m s a)) = omega arith in (
-      omega (arith, outcomes_few m c.requires.opens s a),
-      omega (arith, outcome_small m c.requires.opens s a k there),
-    )
+    let there : k < length (outcomes (action_at m s a)) = omega arith in record {
+      room = omega (arith, outcomes_few m c.requires.opens s a);
+      small = omega (arith, outcome_small m c.requires.opens s a k there);
+    }
 
 pub loop-place-preserved : goal.loop-place-preserved
 loop-place-preserved g c =
     let os = outcomes (action_at (g.M.Model.meaning c.args.model.now) c.args.state c.args.action) in
     let k = c.loop-place.place in
     let there : k < length os = omega arith in
-    (outcomes_turn os k c.outcome.result there c.outcome.ensures c.loop-place.invariant.0 c.put-two-at.ensures, omega (arith, c.put-two-at.ensures.place))
+    (outcomes_turn os k c.outcome.result there c.outcome.ensures c.loop-place.invariant.0 c.put_two-at.ensures, omega (arith, c.put_two-at.ensures.place))
 
 pub returns : goal.returns
 returns g c =

@@ -13,7 +13,7 @@ loop-task-preserved c =
     let ps = figures c.args.prices.now in
     let k = c.loop-task.task in
     let there : k < length ps = omega (arith, length_figures c.args.prices.now) in
-    (prices_turn ps k c.price.result there c.price.ensures c.loop-task.invariant.0 c.put-price-at.ensures.puts, omega (arith, c.put-price-at.ensures.few))
+    (prices_turn ps k c.price.result there c.price.ensures c.loop-task.invariant.0 c.put_price-at.ensures.puts, omega (arith, c.put_price-at.ensures.few))
 
 pub returns : goal.returns
 returns c =

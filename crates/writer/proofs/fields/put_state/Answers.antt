@@ -8,6 +8,6 @@ pub returns : goal.returns
 returns g c =
     let x = state_at (g.M.Model.meaning c.args.model.now) c.args.state in
     record {
-      puts = puts_as (open_bytes x (sym c.is_end.ensures ∙ c.if-is-end.false)) (puts_more c.put-head-at.ensures c.put-actions.ensures.puts);
-      few = omega (arith, c.put-head-at.ensures.place, c.put-actions.ensures.few);
+      puts = puts_as (open_bytes x (sym c.is_end.ensures ∙ c.if-is_end.false)) (puts_more c.put_head-at.ensures c.put_actions.ensures.puts);
+      few = omega (arith, c.put_head-at.ensures.place, c.put_actions.ensures.few);
     }

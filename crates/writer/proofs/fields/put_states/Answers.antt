@@ -13,7 +13,7 @@ loop-state-preserved g c =
     let m = g.M.Model.meaning c.args.model.now in
     let k = c.loop-state.state in
     let there : k < length m = omega arith in
-    (fields_turn state_fields m k (Open []) there c.loop-state.invariant.0 c.put-state-at.ensures.puts, omega (arith, c.put-state-at.ensures.few))
+    (fields_turn state_fields m k (Open []) there c.loop-state.invariant.0 c.put_state-at.ensures.puts, omega (arith, c.put_state-at.ensures.few))
 
 pub returns : goal.returns
 returns g c =

@@ -11,11 +11,11 @@ pub returns : goal.returns
 returns c =
     let m = meaning_of c.args.model.now in
     let ps = figures c.args.prices.now in
-    let opens = sym c.in-default.ensures.value in
-    let enough : length (sheet_of m ps) ≤ length c.args.bytes.now = omega (arith, c.put-sheet-size.ensures.place) in
-    let few : length (sheet_of m ps) ≤ 65536 = omega (arith, c.put-sheet-size.ensures.place) in
+    let opens = sym c.in_default.ensures.value in
+    let enough : length (sheet_of m ps) ≤ length c.args.bytes.now = omega (arith, c.put_sheet-size.ensures.place) in
+    let few : length (sheet_of m ps) ≤ 65536 = omega (arith, c.put_sheet-size.ensures.place) in
     let writable : Writable m ps = record { opens = opens; free = table_free c.args.model.now; prices = figures_in_range c.args.prices.now } in
     record {
       fault = sym (no_write_fault m ps (length c.args.bytes.now) opens enough few);
-      written = put_written m ps writable c.put-sheet.ensures enough few;
+      written = put_written m ps writable c.put_sheet.ensures enough few;
     }

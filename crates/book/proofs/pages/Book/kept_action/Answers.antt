@@ -10,5 +10,5 @@ bounds-self-state c =
     (λ inside. inside)
     (λ past.
     let all : length b.planned ≤ c.args.state = omega (arith, b.planned_whole, past) in
-    absurd (true≢false (c.if-is-planned.ensures ∙ get_or_past b.planned c.args.state false all)))
+    absurd (true≢false (c.if-is_planned.ensures ∙ get_or_past b.planned c.args.state false all)))
     (cases_lt c.args.state 4096)

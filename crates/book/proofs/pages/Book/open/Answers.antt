@@ -8,9 +8,9 @@ pub returns : goal.returns
 returns g c =
     let m = g.M.Model.meaning c.args.model.now in
     let ps = figures c.args.prices.now in
-    let fine = c.in-default.ensures in
+    let fine = c.in_default.ensures in
     record {
       fault = fine;
-      after = c.set-up.ensures;
-      sound = λ opens. subst (Sound m g.R.Rule.value ps) (sym c.set-up.ensures) (opened_sound m opens g.R.Rule.value ps c.args.estimates.now (page c.args.self.now) (sym fine));
+      after = c.set_up.ensures;
+      sound = λ opens. subst (Sound m g.R.Rule.value ps) (sym c.set_up.ensures) (opened_sound m opens g.R.Rule.value ps c.args.estimates.now (page c.args.self.now) (sym fine));
     }
