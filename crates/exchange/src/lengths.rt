@@ -25,18 +25,18 @@ fn answer(rt: HostRuntime, sheet: &[u8]) -> Result<Result<Size, SheetFault>, Fai
     );
     if let Ok(size) = answer {
         let count = size.states;
-        assert!(count <= states.len());
+        assert!(rt; count <= states.len());
         let model = TableModel {
             states: &states.as_slice()[0..count],
             actions: actions.as_slice(),
             outcomes: outcomes.as_slice(),
         };
         let mut bytes = vec![in rt.alloc(); BYTE; 65_536]?;
-        assert_eq!(
+        assert_eq!(rt;
             write(&model, &prices, bytes.as_mut_slice()),
             Ok(sheet.len())
         );
-        assert_eq!(bytes.as_slice().get(0..sheet.len()), Some(sheet));
+        assert_eq!(rt; bytes.as_slice().get(0..sheet.len()), Some(sheet));
     }
     Ok(answer)
 }
@@ -98,7 +98,7 @@ fn written(
     let answer = write(&model, &PriceList::new(), bytes.as_mut_slice());
     if answer.is_err() {
         for byte in bytes.as_slice() {
-            assert_eq!(*byte, BYTE);
+            assert_eq!(rt; *byte, BYTE);
         }
     }
     Ok(answer)

@@ -3,11 +3,10 @@ ghost use Rattle.std.specs.Prelude.{◌≡◌, ◌++◌, IfOk, string_bytes, OnO
 ghost use Rattle.lines.specs.Texts.{values_of, state_cost_text, best_text};
 
 use cost::Cost;
-use std::alloc::Global;
-use std::fmt;
+use std::alloc::{AllocError, Global};
 
 // A line for each state with its cost.
-pub fn best(heap: Global, costs: &[Cost]) -> Result<String, fmt::Error>
+pub fn best(heap: Global, costs: &[Cost]) -> Result<String, AllocError>
     ensures { IfOk result (λ t. string_bytes t ≡ best_text 0 (values_of costs.now)) }
 {
     let mut lines = String::new(heap);
@@ -18,7 +17,7 @@ pub fn best(heap: Global, costs: &[Cost]) -> Result<String, fmt::Error>
 }
 
 // Adds the line of a state's cost.
-fn write_cost(lines: &mut String, state: usize, cost: u32) -> fmt::Result
+fn write_cost(lines: &mut String, state: usize, cost: u32) -> Result<(), AllocError>
     ensures { OnOk result (string_bytes lines.new ≡ string_bytes lines.old ++ state_cost_text state cost) }
 {
     if cost == Cost::ROOF {

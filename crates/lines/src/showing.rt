@@ -7,12 +7,11 @@ ghost use Rattle.lines.specs.Texts.{numbered, price_text, outcomes_text, action_
 
 use cost::{PriceList, Task};
 use model::Model;
-use std::alloc::Global;
-use std::fmt;
+use std::alloc::{AllocError, Global};
 use table::TableModel;
 
 // The number of states, the prices other than 1, and the states with their actions.
-pub fn show(heap: Global, model: &TableModel<'_>, prices: &PriceList) -> Result<String, fmt::Error>
+pub fn show(heap: Global, model: &TableModel<'_>, prices: &PriceList) -> Result<String, AllocError>
     ensures { IfOk result (λ t. string_bytes t ≡ show_text (meaning_of model.now) (figures prices.now)) }
 {
     let mut lines = String::new(heap);
@@ -24,7 +23,7 @@ pub fn show(heap: Global, model: &TableModel<'_>, prices: &PriceList) -> Result<
 }
 
 // Adds a line for each task whose price is not 1.
-fn write_prices(lines: &mut String, prices: &PriceList) -> fmt::Result
+fn write_prices(lines: &mut String, prices: &PriceList) -> Result<(), AllocError>
     ensures { OnOk result (string_bytes lines.new ≡ string_bytes lines.old ++ numbered price_text 0 (figures prices.now)) }
 {
     for task in 0..64 {
@@ -44,7 +43,7 @@ fn price_of(prices: &PriceList, task: u8) -> u16
 }
 
 // Adds the line of a task's price, unless the price is 1.
-fn write_price(lines: &mut String, task: u8, price: u16) -> fmt::Result
+fn write_price(lines: &mut String, task: u8, price: u16) -> Result<(), AllocError>
     ensures { OnOk result (string_bytes lines.new ≡ string_bytes lines.old ++ price_text task price) }
 {
     if price != 1 {
@@ -54,7 +53,7 @@ fn write_price(lines: &mut String, task: u8, price: u16) -> fmt::Result
 }
 
 // Adds the lines of all states.
-fn write_states<M: Model>(lines: &mut String, model: &M) -> fmt::Result
+fn write_states<M: Model>(lines: &mut String, model: &M) -> Result<(), AllocError>
     ensures { OnOk result (string_bytes lines.new ≡ string_bytes lines.old ++ numbered state_text 0 (M.Model.meaning model.now)) }
 {
     for state in 0..model.states() {
@@ -64,7 +63,7 @@ fn write_states<M: Model>(lines: &mut String, model: &M) -> fmt::Result
 }
 
 // Adds the lines of a state.
-fn write_state<M: Model>(lines: &mut String, model: &M, state: usize) -> fmt::Result
+fn write_state<M: Model>(lines: &mut String, model: &M, state: usize) -> Result<(), AllocError>
     ensures { OnOk result (string_bytes lines.new ≡ string_bytes lines.old ++ state_text state (state_at (M.Model.meaning model.now) state)) }
 {
     if model.is_end(state) {
@@ -77,7 +76,7 @@ fn write_state<M: Model>(lines: &mut String, model: &M, state: usize) -> fmt::Re
 }
 
 // Adds a line for each action of a state.
-fn write_actions<M: Model>(lines: &mut String, model: &M, state: usize) -> fmt::Result
+fn write_actions<M: Model>(lines: &mut String, model: &M, state: usize) -> Result<(), AllocError>
     ensures { OnOk result (string_bytes lines.new ≡ string_bytes lines.old ++ numbered (action_text state) 0 (actions (state_at (M.Model.meaning model.now) state))) }
 {
     for action in 0..model.actions(state) {
@@ -87,7 +86,12 @@ fn write_actions<M: Model>(lines: &mut String, model: &M, state: usize) -> fmt::
 }
 
 // Adds the line of an action.
-fn write_action<M: Model>(lines: &mut String, model: &M, state: usize, action: usize) -> fmt::Result
+fn write_action<M: Model>(
+    lines: &mut String,
+    model: &M,
+    state: usize,
+    action: usize,
+) -> Result<(), AllocError>
     ensures { OnOk result (string_bytes lines.new ≡ string_bytes lines.old ++ action_text state action (action_at (M.Model.meaning model.now) state action)) }
 {
     if model.is_free(state, action) {
@@ -105,7 +109,7 @@ fn write_outcomes<M: Model>(
     model: &M,
     state: usize,
     action: usize,
-) -> fmt::Result
+) -> Result<(), AllocError>
     ensures { OnOk result (string_bytes lines.new ≡ string_bytes lines.old ++ outcomes_text (outcomes (action_at (M.Model.meaning model.now) state action))) }
 {
     for place in 0..model.outcomes(state, action) {

@@ -14,7 +14,7 @@ loop-state-preserved c =
     c.get.ensures
     ∙ (ap (λ (x : Cost). x.value) c.index-costs-state.is
     ∙ sym (get_or-map (λ (x : Cost). x.value) cs s c.index-costs-state.result 0 c.loop-state-test.true)) in
-    numbered_more state_cost_text _ _ _ (values_of cs) s _ 0 within read c.loop-state.invariant c.in-ok-write-cost.ensures
+    numbered_more state_cost_text _ _ _ (values_of cs) s _ 0 within read c.loop-state.invariant c.in_ok-write_cost.ensures
 
 pub returns : goal.returns
 returns c =

@@ -5,4 +5,4 @@ use Rattle.lines.proofs.showing.show.Goals as goal
 
 pub returns : goal.returns
 returns c =
-    all_shown _ _ _ _ (figures c.args.prices.now) (meaning_of c.args.model.now) _ c.new-lines.ensures.bytes c.states-states.ensures c.in-ok-writeln.ensures.bytes c.in-ok-write-prices.ensures c.in-ok-write-states.ensures
+    all_shown _ _ _ _ (figures c.args.prices.now) (meaning_of c.args.model.now) _ c.new-lines.ensures.bytes c.states-states.ensures c.in_ok-writeln.ensures.bytes c.in_ok-write_prices.ensures c.in_ok-write_states.ensures

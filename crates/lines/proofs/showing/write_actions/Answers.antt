@@ -10,7 +10,7 @@ loop-action-preserved g c =
     let acts = actions (state_at (g.M.Model.meaning c.args.model.now) s) in
     let a = c.loop-action.action in
     let within : a < length acts = omega arith in
-    numbered_more (action_text s) _ _ _ acts a _ Barred within refl c.loop-action.invariant c.in-ok-write-action.ensures
+    numbered_more (action_text s) _ _ _ acts a _ Barred within refl c.loop-action.invariant c.in_ok-write_action.ensures
 
 pub returns : goal.returns
 returns g c =

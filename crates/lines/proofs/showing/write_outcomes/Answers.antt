@@ -8,7 +8,7 @@ loop-place-preserved g c =
     let os = outcomes (action_at (g.M.Model.meaning c.args.model.now) c.args.state c.args.action) in
     let k = c.loop-place.place in
     let within : k < length os = omega arith in
-    outcomes_more _ _ _ os k _ within c.outcome-outcome.ensures c.loop-place.invariant c.in-ok-write.ensures.bytes
+    outcomes_more _ _ _ os k _ within c.outcome-outcome.ensures c.loop-place.invariant c.in_ok-write.ensures.bytes
 
 pub returns : goal.returns
 returns g c =

@@ -9,7 +9,7 @@ pub loop-task-preserved : goal.loop-task-preserved
 loop-task-preserved c =
     let ps = c.args.prices.now in
     let within : c.loop-task.task < length (figures ps) = omega (arith, length_figures ps, c.loop-task-test.true) in
-    numbered_more price_text _ _ _ (figures ps) c.loop-task.task _ 0 within c.price_of.ensures c.loop-task.invariant c.in-ok-write-price.ensures
+    numbered_more price_text _ _ _ (figures ps) c.loop-task.task _ 0 within c.price_of.ensures c.loop-task.invariant c.in_ok-write_price.ensures
 
 pub returns : goal.returns
 returns c =

@@ -9,7 +9,7 @@ loop-state-preserved g c =
     let m = g.M.Model.meaning c.args.model.now in
     let s = c.loop-state.state in
     let within : s < length m = omega arith in
-    numbered_more state_text _ _ _ m s _ (Open []) within refl c.loop-state.invariant c.in-ok-write-state.ensures
+    numbered_more state_text _ _ _ m s _ (Open []) within refl c.loop-state.invariant c.in_ok-write_state.ensures
 
 pub returns : goal.returns
 returns g c =
