@@ -14,10 +14,6 @@ use Rattle.paelwisk.specs.declared.valves.answers.Finding.TheVariants.{Open}
 pub added : {X Y : Type 0} (r : Result X Y) (old between new a b both : List ℕ) → between ≡ old ++ a → a ++ b ≡ both → IfOk r (λ _. new ≡ between ++ b) → IfOk r (λ _. new ≡ old ++ both)
 added r old between new a b both first e h = rw (← e, ← append_assoc old a b, ← first) h
 
--- The line of a test that is barred.
-pub barred_line : {X Y : Type 0} (r : Result X Y) (old new : List ℕ) (j : ℕ) (o : Option Split) → o ≡ None → IfOk r (λ _. new ≡ old ++ action_text j Barred) → IfOk r (λ _. new ≡ old ++ action_text j (action_of o))
-barred_line r old new j o e h = rw e h
-
 -- The lines of an open state.
 pub open_lines : {X Y : Type 0} (r : Result X Y) (old between new : List ℕ) (a : Answer) (v : Vec (Option Split) Global) (splits : List (Option Split)) → a.finding ≡ Open v → splits ≡ vec_items v → between ≡ old ++ (codes "state " ++ (decimal a.state ++ codes " open\n")) → IfOk r (λ _. new ≡ between ++ tests_text 0 splits) → IfOk r (λ _. new ≡ old ++ answer_text a)
 open_lines r old between new a v splits is items first h =

@@ -3,6 +3,7 @@
 
 use commands::{Command, SheetCommand};
 use failures::Failure;
+use std::process::ExitCode;
 use std::{env, io};
 
 // The commands there are.
@@ -27,11 +28,19 @@ impl From<io::Error> for Ended {
     }
 }
 
-fn main(rt: HostRuntime) -> Result<(), Ended> {
-    let mut words = env::args(&rt)?.skip(1);
+fn main(rt: HostRuntime) -> ExitCode {
+    match run(&rt) {
+        Ok(()) => ExitCode::SUCCESS,
+        Err(Ended) => ExitCode::FAILURE,
+    }
+}
+
+// Runs the command that the program's words ask for.
+fn run(rt: &HostRuntime) -> Result<(), Ended> {
+    let mut words = env::args(rt)?.skip(1);
     match (words.next(), words.next(), words.next(), words.next()) {
-        (Some(name), first, second, None) => obey(&rt, name.as_str(), first, second),
-        _ => tell_usage(&rt),
+        (Some(name), first, second, None) => obey(rt, name.as_str(), first, second),
+        _ => tell_usage(rt),
     }
 }
 

@@ -2,8 +2,8 @@
 use crate::Ended;
 use crate::words::BadWord;
 use cost::{Largest, Rule, Sum};
-use lines::{best_sheet, show_sheet};
 use std::fs;
+use texts::{best_sheet, show_sheet};
 use transfer::{TransferFault, copy_sheet};
 
 // Prints the states and the prices of a sheet.

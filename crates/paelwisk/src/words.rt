@@ -66,7 +66,7 @@ impl<'w, 't> Words<'w, 't> {
     pub fn number<N: FromStr>(&mut self, expected: &'static str) -> Result<N, BadWord<'t>>
     where
         N::Err: Drop,
-        ensures read { IfOk result (λ n. First (λ w. from_str_gives w (Ok n)) self.old.rest.now) }
+        ensures read { IfOk result (λ n. First (λ w. N.from_str_gives w (Ok n)) self.old.rest.now) }
         ensures rest { self.new.rest.now ≡ left (is_ok result) self.old.rest.now }
         ensures no_more { length self.new.rest.now ≤ length self.old.rest.now }
     {

@@ -117,8 +117,9 @@ fn write_best(lines: &mut String, rule: RuleName, state: usize, cost: u32) -> fm
 {
     let name = rule.name();
     if cost == Cost::ROOF {
-        writeln!(lines, "best {name} state {state} roof")
+        writeln!(lines, "best {name} state {state} roof")?;
     } else {
-        writeln!(lines, "best {name} state {state} {cost}")
+        writeln!(lines, "best {name} state {state} {cost}")?;
     }
+    Ok(())
 }

@@ -26,7 +26,7 @@ fn write_answer(lines: &mut String, answer: &Answer) -> fmt::Result
 {
     let state = answer.state;
     match &answer.finding {
-        Finding::End(cost) => writeln!(lines, "state {state} end {cost}"),
+        Finding::End(cost) => Ok(writeln!(lines, "state {state} end {cost}")?),
         Finding::Open(splits) => {
             writeln!(lines, "state {state} open")?;
             write_tests(lines, splits)
@@ -55,7 +55,7 @@ fn write_test(lines: &mut String, test: usize, split: Option<Split>) -> fmt::Res
                 smaller,
                 larger,
             },
-        ) => writeln!(lines, "test {test} task {task} -> {smaller} {larger}"),
-        None => writeln!(lines, "test {test} barred"),
+        ) => Ok(writeln!(lines, "test {test} task {task} -> {smaller} {larger}")?),
+        None => Ok(writeln!(lines, "test {test} barred")?),
     }
 }

@@ -8,5 +8,5 @@ use Rattle.paelwisk.proofs.valves.about.Goals as goal
 pub returns : goal.returns
 returns c =
     all_lines _ _ _ _ _
-    (c.in-ok-lines.ensures ∙ (ap (λ xs. flat_map answer_text xs) c.deref.ensures.value ∙ told_text _ _ _ c.in-ok-answers.ensures))
-    c.in-ok-write-all.ensures
+    (c.in_ok-lines.ensures ∙ (ap (λ xs. flat_map answer_text xs) c.deref.ensures.value ∙ told_text _ _ _ c.in_ok-answers.ensures))
+    c.in_ok-write_all.ensures

@@ -3,7 +3,7 @@ use Rattle.cost.specs.Prices.{figures}
 use Rattle.valve.specs.Valves.{meaning_of}
 use Rattle.paelwisk.proofs.Replying.{price_told, best_told, all_asked}
 use Rattle.paelwisk.proofs.valves.asks.write_all.Goals as goal
-use Rattle.paelwisk.proofs.valves.asks.write_all.Goals.{in-Price, in-Best+in-ok-write-bests}
+use Rattle.paelwisk.proofs.valves.asks.write_all.Goals.{in-Price, in-Best+in_ok-write_bests-in-Best}
 
 pub loop-ask-preserved : goal.loop-ask-preserved
 loop-ask-preserved c =
@@ -15,8 +15,8 @@ loop-ask-preserved c =
     let start = string_bytes c.args.lines.now in
     let old = string_bytes c.loop-ask.lines in
     elim c.match-ask.branch [
-      | in-Price w ↦ price_told m ss asks i ps (figures c.match-ask.prices) start old (string_bytes c.match-ask.lines) _ _ _ c.loop-ask-test.true w.in-Price.is (ap figures w.prices-is ∙ w.set-price.ensures) (ap string_bytes w.lines-is) c.loop-ask.invariant
-      | in-Best+in-ok-write-bests w ↦ best_told m ss asks i ps (figures c.match-ask.prices) start old (string_bytes c.match-ask.lines) _ _ _ c.loop-ask-test.true w.in-Best.is (ap figures w.prices-is) (ap string_bytes w.lines-is ∙ w.in-ok-write-bests.ensures) w.set-bests.ensures c.loop-ask.invariant
+      | in-Price w ↦ price_told m ss asks i ps (figures c.match-ask.prices) start old (string_bytes c.match-ask.lines) _ _ _ c.loop-ask-test.true w.in-Price.is (ap figures w.prices-is ∙ w.set_price.ensures) (ap string_bytes w.lines-is) c.loop-ask.invariant
+      | in-Best+in_ok-write_bests-in-Best w ↦ best_told m ss asks i ps (figures c.match-ask.prices) start old (string_bytes c.match-ask.lines) _ _ _ c.loop-ask-test.true w.in-Best.is (ap figures w.prices-is) (ap string_bytes w.lines-is ∙ w.in_ok-write_bests-in-Best.ensures) w.set_bests.ensures c.loop-ask.invariant
     ]
 
 pub returns : goal.returns

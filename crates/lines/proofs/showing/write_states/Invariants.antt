@@ -1,8 +1,0 @@
-use Rattle.std.proofs.Common.{◌≡◌, ◌++◌, drop, string_bytes}
-use Rattle.lines.specs.Texts.{numbered, state_text}
-use Rattle.lines.proofs.showing.write_states.Given as goal
-
-abbrev pub invariant-loop-state : goal.invariant-loop-state
-invariant-loop-state g l =
-    let m = g.M.Model.meaning l.model in
-    string_bytes l.lines ++ numbered state_text l.state (drop l.state m) ≡ string_bytes l.initial.lines ++ numbered state_text 0 m
