@@ -1,5 +1,5 @@
 -- Each row of the table passes the test that its costs are fixed, so they are the best costs.
-use Rattle.std.proofs.Common.{◌≡◌, ℕ, ◌<◌, Bool, true, ◌&&◌, eqb, List, [], ◌∷◌, length, get_or, None, refl, arith}
+use Rattle.std.proofs.Common.{◌≡◌, true, List, [], ◌∷◌, length, get_or, refl, arith}
 use Rattle.std.specs.List.{AllByRecursion as All}
 use Rattle.cost.specs.Counting.{Lawful}
 use Rattle.cost.specs.Costs.{roof}

@@ -1,5 +1,5 @@
 -- Worked examples: models, a rule, prices, and the best cost of every state.
-use Rattle.std.specs.Prelude.{ℕ, ◌<◌, List, [], ◌∷◌, ◌++◌, length, replicate, slice_index}
+use Rattle.std.specs.Prelude.{ℕ, ◌<◌, List, [], ◌∷◌, length, replicate, slice_index}
 use Rattle.std.specs.List.{AllByRecursion as All}
 use Rattle.cost.specs.Costs.{roof}
 use Rattle.cost.specs.Rules.{largest, capped_sum}

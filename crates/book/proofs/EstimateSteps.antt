@@ -1,7 +1,7 @@
 -- Reading estimates one after the other.
 use Rattle.std.proofs.Common.{◌≡◌, ℕ, Bool, true, false, cond, not, eqb, List, [], ◌∷◌, length, Some, None, Option, sym, ap, ◌∙◌, arith}
 use Rattle.std.proofs.lemmas.Bool.{eq-eqb}
-use Rattle.model.specs.Firsts.{when, first_of, first_below}
+use Rattle.model.specs.Firsts.{when, first_below}
 use Rattle.model.specs.Meaning.{State, state_at}
 use Rattle.model.proofs.Firsts.{when_true, when_false, first_of_right}
 use Rattle.book.specs.Estimates.{estimate_right, estimate_fault}

@@ -1,5 +1,5 @@
 -- A book that was opened, and one whose marks were dropped, is sound.
-use Rattle.std.proofs.Common.{◌≡◌, ℕ, zero, suc, ◌<◌, ◌≤◌, min, Bool, true, false, cond, not, eqb, ltb, leb, ◌⊎◌, List, [], ◌∷◌, ◌++◌, map, length, get_or, drop, Some, None, Option, sym, refl, ap, ◌∙◌, subst, ⊎_elim, arith}
+use Rattle.std.proofs.Common.{◌≡◌, ℕ, zero, suc, ◌<◌, min, Bool, true, false, cond, not, eqb, ltb, List, [], ◌∷◌, map, length, get_or, drop, Some, None, Option, sym, refl, ap, ◌∙◌, subst, ⊎_elim, arith}
 use mathlib.Core.Path.{fun_ext}
 use Rattle.std.specs.List.{range_with_len, ContainsAt as Has}
 use Rattle.std.proofs.lemmas.List.FromFn.{length-map-range_with_len, get_or-map-range_with_len}
@@ -15,9 +15,9 @@ use Rattle.plan.specs.Plans.{Plan, price_of}
 use Rattle.plan.proofs.Opened.{end_small, has_there}
 use Rattle.book.specs.Estimates.{estimate_bounds, estimate_right, estimate_fault}
 use Rattle.book.specs.Openings.{first_by, entries_of, ends_planned, opening_bound, opened_page, unmarked_page, emptied_page}
-use Rattle.book.specs.Pages.{Page, bound_at, planned_at, kept_plan, Sound, Whole}
+use Rattle.book.specs.Pages.{Page, bound_at, Sound}
 use Rattle.book.specs.declared.faults.EstimateFault.TheVariants.{Length, Estimate}
-use Rattle.book.proofs.EstimateSteps.{each-fault, as_many}
+use Rattle.book.proofs.EstimateSteps.{each-fault}
 use Rattle.book.proofs.Soundness.{map_alike}
 use Rattle.book.proofs.Wholes.{few_states}
 

@@ -1,5 +1,5 @@
 -- What is wrong with estimates.
-use Rattle.std.specs.Prelude.{ℕ, min, Bool, cond, not, ◌&&◌, List, [], ◌∷◌, length, None, Option, ◌==◌, nat_le, nat_lt, slice_index}
+use Rattle.std.specs.Prelude.{ℕ, min, Bool, cond, not, List, [], ◌∷◌, length, None, Option, ◌==◌, nat_le, nat_lt, slice_index}
 use Rattle.cost.specs.Costs.{roof}
 use Rattle.model.specs.Firsts.{when, first_of, first_below}
 use Rattle.model.specs.Meaning.{State, End, Open, state_at}

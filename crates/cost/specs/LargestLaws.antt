@@ -1,11 +1,11 @@
 -- The laws of the largest cost of a list.
 use Rattle.std.specs.Prelude.{◌≡◌, ℕ, ◌≤◌, max, List, [], ◌∷◌, ◌++◌}
 use Rattle.std.proofs.Common.{arith}
-use Rattle.std.specs.List.{AllZip, ContainsAt as Has, AllByRecursion as All}
+use Rattle.std.specs.List.{AllZip, AllByRecursion as All}
 use Rattle.std.specs.List.Sorted.{IsPermutation}
 use Rattle.std.proofs.ByRecursion.{all-has, all_shuffled}
 use Rattle.std.proofs.lemmas.List.Sorted.{IsPermutation-sym}
-use Rattle.cost.specs.Counting.{CostList, Lawful}
+use Rattle.cost.specs.Counting.{Lawful}
 use Rattle.cost.specs.Costs.{roof}
 use Rattle.cost.specs.Rules.{largest}
 

@@ -1,5 +1,5 @@
 -- The two counting rules as functions on lists of costs.
-use Rattle.std.specs.Prelude.{ℕ, ◌+◌, min, max, List, [], ◌∷◌, sum}
+use Rattle.std.specs.Prelude.{ℕ, min, max, List, [], ◌∷◌, sum}
 use Rattle.cost.specs.Costs.{roof}
 
 -- The largest cost of a list.

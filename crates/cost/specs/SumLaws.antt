@@ -1,12 +1,11 @@
 -- The laws of the capped sum of a list.
-use Rattle.std.specs.Prelude.{◌≡◌, ℕ, ◌+◌, ◌≤◌, min, List, [], ◌∷◌, ◌++◌, sum}
+use Rattle.std.specs.Prelude.{◌≡◌, ℕ, ◌≤◌, min, List, [], ◌∷◌, ◌++◌, sum}
 use Rattle.std.proofs.Common.{arith, ap, sym, subst}
-use Rattle.std.specs.List.{AllZip, ContainsAt as Has, AllByRecursion as All}
-use Rattle.std.specs.List.Sorted.{IsPermutation}
+use Rattle.std.specs.List.{AllZip, ContainsAt as Has}
 use Rattle.std.proofs.ByRecursion.{all-has}
 use Rattle.std.proofs.lemmas.List.Sorted.{sum_by-IsPermutation}
 use Rattle.std.proofs.lemmas.List.Sums.{sum_by-cons, sum_by_push, get_or-le-sum_by}
-use Rattle.cost.specs.Counting.{CostList, Lawful}
+use Rattle.cost.specs.Counting.{Lawful}
 use Rattle.cost.specs.Costs.{roof, capped}
 use Rattle.cost.specs.Rules.{capped_sum}
 

@@ -1,12 +1,12 @@
 -- The first fault in the order of reading is a fault, and none is before it.
-use Rattle.std.proofs.Common.{◌≡◌, ℕ, ◌-◌, ◌<◌, true, ◌&&◌, ◌||◌, ltb, leb, ◌⊎◌, List, [], ◌∷◌, length, sym, refl, ap, ◌∙◌, subst, inl, inr, ⊎_elim, arith}
+use Rattle.std.proofs.Common.{◌≡◌, ℕ, ◌-◌, ◌<◌, ◌&&◌, ◌||◌, ltb, leb, ◌⊎◌, List, [], ◌∷◌, length, refl, ap, subst, inl, inr, ⊎_elim, arith}
 use Rattle.std.proofs.lemmas.Bool.{ltb-true, lt-ltb, leb-true, le-leb, or_cases, or_left, or_right, and_parts, and_from}
-use Rattle.model.specs.Firsts.{when, first_of, first_below, outside, NotAfter, IsFirst}
+use Rattle.model.specs.Firsts.{when, first_below, outside, NotAfter, IsFirst}
 use Rattle.model.specs.Meaning.{State, end_cost, actions, is_free, task, outcomes, state_at, action_at, outcome_at}
-use Rattle.model.specs.Reading.{outcome_fault, action_head, action_fault, state_head, state_fault, first_fault, FirstFault, HasState, HasAction, HasOutcome, Holds, place}
+use Rattle.model.specs.Reading.{outcome_fault, action_head, action_fault, state_head, state_fault, first_fault, FirstFault, HasState, HasAction, Holds, place}
 use Rattle.model.specs.declared.faults.ModelFault.{ModelFault}
 use Rattle.model.specs.declared.faults.ModelFault.TheVariants.{States, Actions, EndCost, Task, Outcomes, Outcome}
-use Rattle.model.proofs.Firsts.{first_when, first_of_both, first_at_places, first_same, outside_true, outside_from, not_after_at}
+use Rattle.model.proofs.Firsts.{first_when, first_of_both, first_at_places, outside_true, outside_from, not_after_at}
 
 never : {A : Type 0} → ◌≡◌ {A = ℕ} 0 1 → A
 never e = absurd (omega arith)

@@ -1,12 +1,12 @@
 -- What the loops of the reading keep: nothing is wrong so far, or the first fault is met.
 use Rattle.std.proofs.Common.{◌≡◌, ℕ, ◌<◌, ◌≤◌, false, ltb, List, length, Some, None, Option, sym, ap, ◌∙◌, subst}
-use Rattle.std.proofs.lemmas.Bool.{or_from, le-ltb, cond-false}
+use Rattle.std.proofs.lemmas.Bool.{or_from, le-ltb}
 use Rattle.model.specs.Firsts.{when, first_of, first_below, outside}
 use Rattle.model.specs.Meaning.{State, actions, outcomes, state_at, action_at}
 use Rattle.model.specs.Reading.{outcome_fault, action_head, action_fault, state_head, state_fault, first_fault, FirstFault}
 use Rattle.model.specs.declared.faults.ModelFault.{ModelFault}
 use Rattle.model.specs.declared.faults.ModelFault.TheVariants.{States}
-use Rattle.model.proofs.Firsts.{first_of_left, first_of_right, found}
+use Rattle.model.proofs.Firsts.{first_of_right, found}
 use Rattle.model.proofs.ReadingLaw.{first_fault_first}
 
 -- What is promised of an answer follows from its value.

@@ -1,11 +1,11 @@
 -- Trim bars what lists its own state, and nothing goes wrong with a model by it.
-use Rattle.std.proofs.Common.{◌≡◌, ℕ, zero, suc, ◌-◌, ◌<◌, ◌≤◌, true, false, ◌||◌, eqb, ◌⊎◌, List, [], ◌∷◌, length, get_or, Some, None, Option, sym, refl, ap, ◌∙◌, subst, inl, inr, ⊎_elim, arith}
+use Rattle.std.proofs.Common.{◌≡◌, ℕ, zero, suc, ◌-◌, ◌<◌, true, eqb, ◌⊎◌, List, [], ◌∷◌, length, get_or, Some, None, Option, refl, ap, ◌∙◌, subst, inl, inr, ⊎_elim, arith}
 use Rattle.std.specs.List.{ContainsAt as Has}
 use Rattle.std.proofs.lemmas.Bool.{cases_Bool, or_cases, eqb-true}
 use Rattle.model.specs.Firsts.{IsFirst}
-use Rattle.model.specs.Meaning.{Action, Barred, State, is_end, end_cost, is_free, task, outcomes, state_at, action_at, outcome_at}
+use Rattle.model.specs.Meaning.{Barred, State, is_end, end_cost, is_free, task, outcomes, state_at, action_at}
 use Rattle.model.specs.Reading.{Opens, first_fault, FirstFault, Holds, HasAction, place}
-use Rattle.model.specs.TrimFacts.{Trims, TrimBarsReturns}
+use Rattle.model.specs.TrimFacts.{TrimBarsReturns}
 use Rattle.model.specs.Trims.{lists, trimmed}
 use Rattle.model.specs.declared.faults.ModelFault.{ModelFault}
 use Rattle.model.specs.declared.faults.ModelFault.TheVariants.{States, Actions, EndCost, Task, Outcomes, Outcome}

@@ -1,5 +1,5 @@
 -- What is known once a first word is there.
-use Rattle.std.proofs.Common.{◌≡◌, ℕ, ◌-◌, ◌<◌, ◌≤◌, Bool, true, false, List, [], ◌∷◌, length, get_or, take, drop, arith, length-drop, Bor}
+use Rattle.std.proofs.Common.{ℕ, ◌-◌, ◌<◌, ◌≤◌, Bool, true, false, List, [], ◌∷◌, length, get_or, take, drop, arith, length-drop, Bor}
 use Rattle.std.proofs.lemmas.List.{take_rest}
 use Rattle.paelwisk.specs.Words.{First, left}
 

@@ -1,9 +1,8 @@
 -- How the lines of answers are put together.
-use Rattle.std.proofs.Common.{◌≡◌, ℕ, suc, ◌+◌, ◌<◌, ◌≤◌, List, [], ◌∷◌, ◌++◌, length, get_or, take, drop, IfOk, None, vec_items, codes, decimal, Option, Result, Vec, sym, refl, ap, ◌∙◌, subst, add-one, arith}
+use Rattle.std.proofs.Common.{◌≡◌, ℕ, suc, ◌+◌, ◌<◌, ◌≤◌, List, [], ◌∷◌, ◌++◌, length, get_or, take, drop, IfOk, vec_items, codes, decimal, Option, Result, Vec, sym, refl, ap, ◌∙◌, add-one, arith}
 use Rattle.std.specs.declared.alloc.Global.{Global}
 use Rattle.std.specs.List.{flat_map}
 use Rattle.std.proofs.lemmas.List.{append_assoc, append-nil, drop_all, drop_more, flat_map_more, take_more}
-use Rattle.model.specs.Meaning.{Barred}
 use Rattle.valve.specs.declared.valves.Split.{Split}
 use Rattle.paelwisk.specs.Answers.{action_of}
 use Rattle.paelwisk.specs.Lines.{action_text, tests_text, answer_text}

@@ -1,5 +1,5 @@
 -- One more element in a list that a loop makes.
-use Rattle.std.proofs.Common.{◌≡◌, ℕ, ◌+◌, ◌<◌, List, [], ◌∷◌, ◌++◌, map, length, get_or, take, refl, arith, below_more}
+use Rattle.std.proofs.Common.{◌≡◌, ℕ, ◌+◌, ◌<◌, List, [], ◌∷◌, ◌++◌, map, length, get_or, take, arith, below_more}
 use Rattle.std.proofs.lemmas.List.{get_or_append_left, get_or_push, map-append, take_more}
 
 -- The images of the elements are the first elements of another list.

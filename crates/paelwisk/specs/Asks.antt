@@ -1,5 +1,5 @@
 -- What is asked after the states, and the text that answers it.
-use Rattle.std.specs.Prelude.{◌≡◌, ℕ, ◌<◌, ◌≤◌, Bool, cond, ◌&&◌, List, [], ◌∷◌, ◌++◌, length, replicate, codes, decimal, ◌==◌, nat_le, nat_lt, slice_set}
+use Rattle.std.specs.Prelude.{◌≡◌, ℕ, ◌<◌, ◌≤◌, cond, ◌&&◌, List, [], ◌∷◌, ◌++◌, length, replicate, codes, decimal, ◌==◌, nat_le, nat_lt, slice_set}
 use Rattle.std.specs.List.{flat_map}
 use Rattle.cost.specs.Costs.{roof}
 use Rattle.cost.specs.Rules.{largest, capped_sum}

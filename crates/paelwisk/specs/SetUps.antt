@@ -4,7 +4,7 @@ use Rattle.model.specs.Meaning.{State}
 use Rattle.valve.specs.SetUp.{set_up_fault}
 use Rattle.valve.specs.Valves.{valve_meaning}
 use Rattle.valve.specs.declared.faults.ValveFault.{ValveFault}
-use Rattle.paelwisk.specs.Answers.{NotTold, FirstMissing}
+use Rattle.paelwisk.specs.Answers.{FirstMissing}
 use Rattle.paelwisk.specs.Asks.{AllLines}
 use Rattle.paelwisk.specs.declared.failures.Failure.{Failure}
 use Rattle.paelwisk.specs.declared.failures.Failure.TheVariants as failure

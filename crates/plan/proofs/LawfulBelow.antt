@@ -7,7 +7,7 @@ use Rattle.cost.specs.Counting.{CostList, Lawful}
 use Rattle.model.specs.Meaning.{Action, Free, State, End, Open, actions, state_at, action_at}
 use Rattle.model.specs.Reading.{Opens}
 use Rattle.plan.specs.Bests.{Best}
-use Rattle.plan.specs.Bounds.{Bounds, action_cost, least_below, least_cost, cost_by, LawfulAt, LawfulBounds}
+use Rattle.plan.specs.Bounds.{Bounds, action_cost, least_cost, cost_by, LawfulAt, LawfulBounds}
 use Rattle.plan.specs.Plans.{Plan, price_of, Costs, at_end, at_open}
 use Rattle.plan.proofs.Entries.{each_from_places, cost_list, get_or_mapped}
 use Rattle.plan.proofs.Leasts.{least_at, least_most}

@@ -1,5 +1,5 @@
 -- Rounds that lower bounds to the least action costs come to an end, with the best costs.
-use Rattle.std.proofs.Common.{◌≡◌, ℕ, zero, suc, ◌+◌, ◌<◌, ◌≤◌, min, ◌⊎◌, List, length, sym, refl, ap, ◌∙◌, subst, inl, inr, ⊎_elim, arith}
+use Rattle.std.proofs.Common.{◌≡◌, ℕ, zero, suc, ◌<◌, ◌≤◌, ◌⊎◌, List, length, sym, refl, ap, ◌∙◌, subst, inl, inr, ⊎_elim, arith}
 use Rattle.std.proofs.lemmas.Bool.{cases_lt, cases_eq}
 use Rattle.cost.specs.Costs.{roof}
 use Rattle.cost.specs.Counting.{Lawful}
@@ -7,7 +7,7 @@ use Rattle.cost.specs.Prices.{InRange}
 use Rattle.model.specs.Meaning.{Action, State, End, Open, actions, state_at}
 use Rattle.model.specs.Reading.{Opens}
 use Rattle.plan.specs.Bests.{Best}
-use Rattle.plan.specs.Bounds.{Bounds, action_cost, least_below, least_cost, LawfulAt, LawfulBounds}
+use Rattle.plan.specs.Bounds.{Bounds, action_cost, least_below, least_cost, LawfulAt}
 use Rattle.plan.specs.Sweeps.{total, AboveAt, Above, Settled, highest}
 use Rattle.plan.proofs.Fixed.{fixed_best}
 use Rattle.plan.proofs.Kept.{least_cost_grows}

@@ -1,9 +1,9 @@
 -- A plan that has a cost at a state is closed and proper from there, and has no other cost.
-use Rattle.std.proofs.Common.{◌≡◌, ℕ, ◌<◌, ◌≤◌, true, ◌⊎◌, List, length, get_or, Some, sym, refl, ap, ◌∙◌, subst, ap₂, inl, inr, arith}
+use Rattle.std.proofs.Common.{◌≡◌, ℕ, ◌<◌, true, ◌⊎◌, List, length, get_or, sym, ap, ◌∙◌, subst, ap₂, inl, inr}
 use Rattle.std.specs.List.{ContainsAt as Has}
 use Rattle.std.proofs.lemmas.List.{ext_get_or}
 use Rattle.cost.specs.Costs.{capped}
-use Rattle.model.specs.Meaning.{Free, State, End, Open, is_end, state_at, action_at}
+use Rattle.model.specs.Meaning.{Free, State, End, is_end, state_at, action_at}
 use Rattle.plan.specs.Plans.{Plan, Takes, Leads, Path, here, step, Closed, Proper, price_of, Costs, at_end, at_open}
 use Rattle.plan.proofs.Opened.{end_open, free_open}
 

@@ -1,5 +1,5 @@
 -- Lower bounds of the states' costs, and what actions cost by them.
-use Rattle.std.specs.Prelude.{◌≡◌, ℕ, zero, suc, ◌<◌, ◌≤◌, min, Bool, true, false, cond, List, [], map, length, Some, None, Option, ◌==◌, slice_index}
+use Rattle.std.specs.Prelude.{◌≡◌, ℕ, zero, suc, ◌<◌, ◌≤◌, min, Bool, true, false, cond, List, map, length, Some, None, Option, ◌==◌, slice_index}
 use Rattle.std.specs.List.{AllByRecursion as All}
 use Rattle.cost.specs.Costs.{roof, capped}
 use Rattle.cost.specs.declared.amount.Cost.{Cost}

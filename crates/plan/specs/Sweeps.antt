@@ -1,7 +1,7 @@
 -- What the rounds keep that lower bounds to the least action costs.
 use Rattle.std.specs.Prelude.{◌≡◌, ℕ, zero, suc, ◌+◌, ◌<◌, ◌≤◌, List, length}
 use Rattle.cost.specs.Costs.{roof}
-use Rattle.model.specs.Meaning.{Action, State, End, Open, state_at}
+use Rattle.model.specs.Meaning.{State, End, Open, state_at}
 use Rattle.plan.specs.Bounds.{Bounds, least_cost}
 
 -- The sum of the bounds of the first n states.

@@ -1,9 +1,9 @@
 -- Fields that were read, with one field more.
-use Rattle.std.proofs.Common.{◌≡◌, ℕ, ◌+◌, ◌<◌, ◌≤◌, List, [], ◌∷◌, ◌++◌, get_or, None, sym, refl, ap, ◌∙◌, subst, append_assoc, arith, w8, Fits}
+use Rattle.std.proofs.Common.{◌≡◌, ℕ, ◌<◌, List, [], ◌∷◌, ◌++◌, get_or, None, sym, ap, ◌∙◌, append_assoc, arith, w8, Fits}
 use Rattle.std.specs.List.{AllByRecursion as All}
 use Rattle.std.proofs.ByRecursion.{All-from_get_or}
-use Rattle.sheet.specs.Blocks.{Block, block, block_bytes, blocks_bytes}
-use Rattle.sheet.specs.Stages.{Stage, beginning, cause_of, after, after_all, Right}
+use Rattle.sheet.specs.Blocks.{Block, block_bytes, blocks_bytes}
+use Rattle.sheet.specs.Stages.{beginning, cause_of, after, after_all, Right}
 use Rattle.sheet.proofs.Runs.{right_append, after_all_append, joined_push}
 
 -- The bytes of fields with one field more.

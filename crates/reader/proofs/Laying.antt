@@ -1,16 +1,16 @@
 -- Tables hold what was said so far, after each field.
-use Rattle.std.proofs.Common.{◌≡◌, ℕ, ◌+◌, ◌-◌, ◌<◌, ◌≤◌, true, cond, eqb, ltb, leb, ◌⊎◌, List, [], ◌∷◌, ◌++◌, map, length, get_or, drop, set, replicate, None, sym, refl, ap, ◌∙◌, subst, ⊎_elim, append_assoc, zero-add, arith, length-append}
+use Rattle.std.proofs.Common.{◌≡◌, ℕ, ◌+◌, ◌-◌, ◌<◌, ◌≤◌, eqb, ltb, leb, List, [], ◌∷◌, ◌++◌, map, length, get_or, drop, set, replicate, sym, refl, ap, ◌∙◌, ⊎_elim, append_assoc, zero-add, arith, length-append}
 use Rattle.std.specs.List.{flat_map}
 use Rattle.std.proofs.lemmas.List.{append-nil, set_at}
 use Rattle.std.proofs.lemmas.Bool.{cond-true, cond_both, and_from, le-leb, lt-ltb}
 use Rattle.model.specs.Meaning.{Action, Free, State, End, Open, actions, outcomes}
 use Rattle.sheet.specs.Blocks.{Block, block}
-use Rattle.sheet.specs.Stages.{Stage, beginning, pair_at, end_cost_in, outcomes_in, places_in, cause_of, after, after_all, Right}
-use Rattle.sheet.proofs.Contents.{Content, nothing, with_action, grow, grow_all, states_of, prices_of, RoomIs, Follows}
+use Rattle.sheet.specs.Stages.{Stage, beginning, pair_at, end_cost_in, outcomes_in, places_in, after, after_all, Right}
+use Rattle.sheet.proofs.Contents.{Content, nothing, with_action, grow, grow_all, states_of, prices_of, Follows}
 use Rattle.sheet.proofs.FieldKinds.{Kind, states_kind, price_kind, end_kind, open_kind, action_kind, kind_of}
 use Rattle.sheet.proofs.Growing.{grow_follows, nothing_follows}
 use Rattle.sheet.proofs.PairReads.{length_outcomes}
-use Rattle.sheet.proofs.Runs.{joined_append, joined_push}
+use Rattle.sheet.proofs.Runs.{joined_push}
 use Rattle.table.specs.declared.tables.ActionRow.{ActionRow}
 use Rattle.table.specs.declared.tables.StateRow.{StateRow}
 use Rattle.table.specs.declared.tables.StateRow.TheVariants as row

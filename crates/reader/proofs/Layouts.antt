@@ -1,10 +1,10 @@
 -- Where the states, actions and outcomes of a model go in tables, and that the tables then mean it.
-use Rattle.std.proofs.Common.{◌≡◌, ℕ, ◌+◌, ◌-◌, ◌<◌, ◌≤◌, true, cond, List, [], ◌∷◌, ◌++◌, map, length, take, drop, sym, refl, ap, ◌∙◌, subst, append_assoc, add-zero, add_assoc, zero-add, arith, length-append}
+use Rattle.std.proofs.Common.{◌≡◌, ℕ, ◌+◌, true, cond, List, [], ◌∷◌, ◌++◌, map, length, take, sym, refl, ap, ◌∙◌, append_assoc, add-zero, arith, length-append}
 use Rattle.std.specs.List.{flat_map, AllByRecursion as All}
-use Rattle.std.proofs.lemmas.List.{append-nil, take_at, drop_at}
+use Rattle.std.proofs.lemmas.List.{take_at, drop_at}
 use Rattle.model.specs.Meaning.{Action, Barred, Free, State, End, Open, is_free, task, actions, outcomes}
 use Rattle.sheet.proofs.Runs.{joined_append}
-use Rattle.table.specs.Tables.{part, table_action, table_state, table_meaning}
+use Rattle.table.specs.Tables.{part, table_action, table_meaning}
 use Rattle.table.specs.declared.tables.ActionRow.{ActionRow}
 use Rattle.table.specs.declared.tables.StateRow.{StateRow}
 use Rattle.table.specs.declared.tables.StateRow.TheVariants as row

@@ -1,5 +1,5 @@
 -- What was read from right fields up to the last state.
-use Rattle.std.proofs.Common.{◌≡◌, ℕ, ◌<◌, ◌≤◌, true, ltb, List, [], ◌∷◌, ◌++◌, length, take, drop, replicate, Some, Option, sym, refl, ap, ◌∙◌, subst}
+use Rattle.std.proofs.Common.{◌≡◌, ℕ, ◌<◌, ◌≤◌, true, ltb, List, [], ◌++◌, length, take, drop, replicate, Some, Option, sym, refl, ap, ◌∙◌, subst}
 use Rattle.std.specs.List.{flat_map, AllByRecursion as All}
 use Rattle.std.proofs.ByRecursion.{All-weaker}
 use Rattle.std.proofs.lemmas.List.{take_at, drop_at}
@@ -8,14 +8,12 @@ use Rattle.model.specs.Firsts.{when, first_of}
 use Rattle.model.specs.Meaning.{Action, Barred, Free, State, End, Open, is_free, actions, outcomes}
 use Rattle.sheet.specs.Blocks.{Block, blocks_bytes}
 use Rattle.sheet.specs.Sheets.{Stands}
-use Rattle.sheet.specs.Stages.{Stage, beginning, after_all, all_read, Right}
+use Rattle.sheet.specs.Stages.{Stage, beginning, all_read}
 use Rattle.sheet.specs.declared.faults.SheetFault.TheVariants.{Short}
 use Rattle.sheet.proofs.Completing.{whole_writable}
 use Rattle.sheet.proofs.Contents.{nothing, grow_all, model_in, prices_in, ActionRight, StateRight}
 use Rattle.sheet.proofs.Growing.{right_follows}
 use Rattle.table.specs.Tables.{table_meaning}
-use Rattle.table.specs.declared.tables.ActionRow.{ActionRow}
-use Rattle.table.specs.declared.tables.StateRow.{StateRow}
 use Rattle.reader.specs.Puts.{Filled, put_all, put_state, put_action, put_outcomes, put_price}
 use Rattle.reader.specs.Reads.{Whole, size_of, stage_size, first_short, Refuses, Tables, tables_model, ReadInto}
 use Rattle.reader.specs.declared.sizes.Size.{Size}

@@ -1,14 +1,14 @@
 -- What is wrong with bytes, by the fields that were read and the one that was refused.
-use Rattle.std.proofs.Common.{◌≡◌, ℕ, ◌-◌, ◌<◌, ◌≤◌, Bool, true, false, cond, not, ◌⊎◌, List, [], ◌∷◌, ◌++◌, length, Some, None, Option, sym, refl, ap, ◌∙◌, subst, inl, inr, ⊎_elim, arith, length-append}
+use Rattle.std.proofs.Common.{◌≡◌, ℕ, ◌-◌, ◌<◌, ◌≤◌, Bool, true, false, cond, not, ◌⊎◌, List, [], ◌∷◌, ◌++◌, length, Some, None, sym, refl, ap, ◌∙◌, subst, inl, inr, ⊎_elim, arith, length-append}
 use Rattle.std.specs.List.{AllByRecursion as All}
 use Rattle.std.proofs.lemmas.List.{append-nil}
 use Rattle.model.specs.Firsts.{when, first_of}
 use Rattle.model.specs.Meaning.{State}
 use Rattle.sheet.specs.Blocks.{Block, block, block_bytes, blocks_bytes}
 use Rattle.sheet.specs.Refusals.{fault_at}
-use Rattle.sheet.specs.Sheets.{fields, Writable, Stands}
+use Rattle.sheet.specs.Sheets.{fields, Stands}
 use Rattle.sheet.specs.Stages.{Stage, beginning, after_all, all_read, tag_due, length_right, value_right, cause_of, Right}
-use Rattle.sheet.specs.Wrongs.{Begins, Reached, NoField, EndsSoon, Wrong}
+use Rattle.sheet.specs.Wrongs.{Begins, Reached, NoField, Wrong}
 use Rattle.sheet.specs.declared.faults.Cause.{Cause}
 use Rattle.sheet.specs.declared.faults.Cause.TheVariants.{Tag, Length, Value}
 use Rattle.sheet.specs.declared.faults.SheetFault.TheVariants as fault

@@ -1,10 +1,9 @@
 -- Bytes are a sheet, or have exactly one fault.
 use Rattle.std.proofs.Common.{◌≡◌, ℕ, ◌<◌, ◌≤◌, Bool, true, false, cond, not, ◌⊎◌, List, [], ◌∷◌, ◌++◌, length, Some, None, Option, sym, refl, ap, ◌∙◌, subst, inl, inr, ⊎_elim, append_assoc, arith}
-use Rattle.std.specs.List.{AllByRecursion as All}
 use Rattle.std.proofs.lemmas.Bool.{cases_lt}
 use Rattle.model.specs.Firsts.{when, first_of}
 use Rattle.model.specs.Meaning.{State}
-use Rattle.sheet.specs.Blocks.{Block, block, tag_of, body_of, block_bytes, blocks_bytes}
+use Rattle.sheet.specs.Blocks.{Block, block, block_bytes, blocks_bytes}
 use Rattle.sheet.specs.Refusals.{fault_at}
 use Rattle.sheet.specs.SheetFacts.{Bytes, SheetStandsForOne, SheetHasNoFault, FaultIsOne}
 use Rattle.sheet.specs.Sheets.{fields, Stands}

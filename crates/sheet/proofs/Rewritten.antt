@@ -5,7 +5,7 @@ use Rattle.std.proofs.lemmas.List.{append-nil, append_assoc, length-append, leng
 use Rattle.std.proofs.lemmas.Bool.{cond-true, cond-false, eq-eqb, ne_eqb}
 use Rattle.model.specs.Meaning.{Free, End, Open}
 use Rattle.sheet.specs.Blocks.{Block, block, body_of, two, block_bytes, blocks_bytes}
-use Rattle.sheet.specs.Sheets.{action_fields, state_fields, price_field, price_fields, fields}
+use Rattle.sheet.specs.Sheets.{action_fields, state_fields, price_field, price_fields}
 use Rattle.sheet.specs.Stages.{Stage, beginning, pair_at, outcomes_in, end_cost_in, cause_of, after, Right}
 use Rattle.sheet.proofs.Contents.{Content, nothing, with_action, grow, grow_all, states_of, Follows}
 use Rattle.sheet.proofs.Runs.{joined_push, all_parts}

@@ -1,7 +1,7 @@
 -- Taking the first field off some bytes.
 use Rattle.std.proofs.Common.{◌≡◌, ℕ, ◌+◌, ◌*◌, ◌/◌, ◌%◌, ◌<◌, ◌≤◌, List, [], ◌∷◌, ◌++◌, length, get_or, drop, ap, ◌∙◌, arith, length-append}
 use native.Mathlib.Nat.{div-add-mod}
-use Rattle.sheet.specs.Blocks.{Block, block, block_bytes}
+use Rattle.sheet.specs.Blocks.{block, block_bytes}
 use Rattle.sheet.specs.Wrongs.{NoField}
 
 -- Bytes too few for a tag and a length begin with no field.

@@ -1,7 +1,7 @@
 -- How far the reading of a sheet has come, and which fields may come next.
 use Rattle.std.specs.Prelude.{◌≡◌, ℕ, suc, ◌+◌, ◌-◌, ◌*◌, ◌/◌, ◌%◌, Bool, true, false, cond, not, ◌&&◌, List, [], ◌∷◌, length, drop, None, Option, ◌==◌, nat_le, nat_lt, slice_index}
 use Rattle.model.specs.Firsts.{when, first_of}
-use Rattle.sheet.specs.Blocks.{Block, block, tag_of, body_of}
+use Rattle.sheet.specs.Blocks.{Block, block}
 use Rattle.sheet.specs.declared.progress.Due.{Due}
 use Rattle.sheet.specs.declared.faults.Cause.{Cause}
 use Rattle.sheet.specs.declared.faults.Cause.TheVariants.{Tag, Length, Value}

@@ -1,6 +1,6 @@
 -- What a table model means.
 use Rattle.std.specs.Prelude.{ℕ, ◌+◌, cond, List, [], map, length, take, drop, nat_le}
-use Rattle.model.specs.Meaning.{Action, Barred, Free, State, End, Open}
+use Rattle.model.specs.Meaning.{Action, Free, State, End, Open}
 use Rattle.table.specs.declared.tables.ActionRow.{ActionRow}
 use Rattle.table.specs.declared.tables.Span.{Span}
 use Rattle.table.specs.declared.tables.StateRow.{StateRow}

@@ -1,5 +1,5 @@
 -- How the lines of a model are put together.
-use Rattle.std.proofs.Common.{◌≡◌, ℕ, ◌+◌, ◌<◌, ◌≤◌, true, false, List, [], ◌∷◌, ◌++◌, length, get_or, drop, IfOk, codes, decimal, Result, ap, ◌∙◌, arith}
+use Rattle.std.proofs.Common.{◌≡◌, ℕ, ◌+◌, ◌<◌, ◌≤◌, true, false, List, [], ◌++◌, length, get_or, drop, IfOk, codes, decimal, Result, ap, ◌∙◌, arith}
 use Rattle.std.proofs.lemmas.List.{append_assoc, drop_all, drop_more}
 use Rattle.model.specs.Meaning.{Action, Barred, Free, State, End, Open, is_end, is_free, task, outcomes, actions}
 use Rattle.texts.specs.Texts.{numbered, price_text, outcomes_text, action_text, state_text, show_text}

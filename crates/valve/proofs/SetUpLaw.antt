@@ -1,5 +1,5 @@
 -- The fault that a set-up is refused for is the first one; a set-up without one is within its limits.
-use Rattle.std.proofs.Common.{◌≡◌, ℕ, ◌^◌, ◌<◌, ◌≤◌, true, false, ◌||◌, ltb, leb, ◌⊎◌, List, [], ◌∷◌, length, get_or, is_some, Some, None, Option, sym, refl, ap, subst, inl, inr, ⊎_elim, arith}
+use Rattle.std.proofs.Common.{◌≡◌, ℕ, ◌^◌, ◌<◌, ◌≤◌, false, ◌||◌, ltb, leb, ◌⊎◌, List, length, get_or, is_some, Some, None, Option, refl, ap, subst, inl, inr, ⊎_elim, arith}
 use Rattle.std.proofs.lemmas.Bool.{ltb-true, lt-ltb, leb-true, le-leb, or_cases, or_left, or_right, cases_lt}
 use Rattle.model.specs.Firsts.{when, first_of, first_below, outside, NotAfter, IsFirst}
 use Rattle.valve.specs.SetUp.{test_at, test_fault, repair_fault, set_up_fault, SetUpHolds, set_up_place}

@@ -1,5 +1,5 @@
 -- What the tests of a set-up tell, one after the other.
-use Rattle.std.proofs.Common.{◌≡◌, ℕ, ◌≤◌, false, ltb, List, length, Some, None, Option, sym, ap, ◌∙◌, subst}
+use Rattle.std.proofs.Common.{◌≡◌, ℕ, ◌≤◌, false, ltb, List, length, Some, None, Option, ◌∙◌, subst}
 use Rattle.std.proofs.lemmas.Bool.{or_from, le-ltb}
 use Rattle.model.specs.Firsts.{when, first_of, first_below, outside, IsFirst}
 use Rattle.valve.specs.SetUp.{test_fault, repair_fault, set_up_fault, SetUpHolds, set_up_place}

@@ -1,14 +1,14 @@
 -- Every valve model opens: nothing is wrong with what it means.
-use Rattle.std.proofs.Common.{◌≡◌, ℕ, zero, suc, ◌-◌, ◌^◌, ◌<◌, ◌≤◌, min, max, true, ◌⊎◌, List, [], ◌∷◌, length, get_or, Some, None, Option, sym, refl, ap, ◌∙◌, subst, inl, inr, ⊎_elim, arith, pow_pos, pow_mono}
+use Rattle.std.proofs.Common.{◌≡◌, ℕ, zero, suc, ◌-◌, ◌^◌, ◌<◌, ◌≤◌, min, max, ◌⊎◌, [], ◌∷◌, length, get_or, Some, None, Option, refl, ap, ◌∙◌, subst, inl, inr, ⊎_elim, arith, pow_pos, pow_mono}
 use lib.Bits.{and_le_l}
 use lib.Count.{ones, count_trailing_zeros}
 use Rattle.std.proofs.lemmas.List.{get_or-take}
 use Rattle.std.proofs.lemmas.Bool.{cases_eq}
 use Rattle.model.specs.Firsts.{IsFirst}
-use Rattle.model.specs.Meaning.{Action, Barred, Free, is_free, task, outcomes, end_cost, state_at, action_at, outcome_at}
+use Rattle.model.specs.Meaning.{Action, Barred, Free, is_free, task, outcomes, end_cost, action_at}
 use Rattle.model.specs.Reading.{first_fault, Opens, Holds, HasAction, place}
 use Rattle.valve.specs.SetUp.{test_at}
-use Rattle.valve.specs.Valves.{inside_part, outside_part, test_action, repairs_of, tests_of, meaning_of}
+use Rattle.valve.specs.Valves.{inside_part, outside_part, test_action, meaning_of}
 use Rattle.model.specs.declared.faults.ModelFault.{ModelFault}
 use Rattle.model.specs.declared.faults.ModelFault.TheVariants.{States, Actions, EndCost, Task, Outcomes, Outcome}
 use Rattle.valve.specs.declared.valves.Test.{Test}

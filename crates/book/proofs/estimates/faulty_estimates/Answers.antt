@@ -1,4 +1,4 @@
-use Rattle.std.proofs.Common.{◌≡◌, ◌<◌, length, None, sym, ap, ◌∙◌, subst, arith}
+use Rattle.std.proofs.Common.{◌≡◌, ◌<◌, length, None, sym, ◌∙◌, subst, arith}
 use Rattle.cost.specs.Prices.{figures}
 use Rattle.model.specs.Firsts.{first_below}
 use Rattle.model.proofs.Firsts.{none_more, found}

@@ -1,4 +1,4 @@
-use Rattle.std.proofs.Common.{◌≡◌, ◌<◌, ◌≤◌, length, None, sym, ◌∙◌, subst, arith}
+use Rattle.std.proofs.Common.{◌≡◌, length, None, sym, subst, arith}
 use Rattle.model.specs.Firsts.{first_below}
 use Rattle.model.specs.Meaning.{actions, outcomes, state_at, action_at}
 use Rattle.model.specs.Reading.{outcome_fault, action_head, action_fault, state_head, state_fault}

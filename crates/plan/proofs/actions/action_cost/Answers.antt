@@ -1,8 +1,8 @@
-use Rattle.std.proofs.Common.{◌≡◌, ◌+◌, ◌<◌, ◌≤◌, [], ◌∷◌, ◌++◌, map, length, take, sym, ap, ◌∙◌, subst, ap₂, arith}
+use Rattle.std.proofs.Common.{◌≡◌, ◌<◌, [], ◌∷◌, ◌++◌, map, length, take, sym, ap, ◌∙◌, subst, ap₂, arith}
 use Rattle.std.proofs.lemmas.List.{map_more, take_all}
 use Rattle.cost.specs.Costs.{capped}
 use Rattle.cost.specs.Prices.{figures}
-use Rattle.model.specs.Meaning.{task, outcomes, action_at}
+use Rattle.model.specs.Meaning.{outcomes, action_at}
 use Rattle.plan.specs.Bounds.{bounds_of, cost_by}
 use Rattle.plan.specs.Plans.{price_of}
 use Rattle.plan.proofs.Opened.{free_shape}

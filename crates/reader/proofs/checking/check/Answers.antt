@@ -3,7 +3,7 @@ use Rattle.std.proofs.lemmas.List.{append-nil, nil_from_length}
 use Rattle.std.proofs.lemmas.Bool.{eqb-true, eqb-false}
 use Rattle.sheet.specs.Blocks.{block, shown, block_bytes, blocks_bytes}
 use Rattle.sheet.specs.Refusals.{fault_at}
-use Rattle.sheet.specs.Stages.{stage, beginning, after, after_all, cause_of, all_read}
+use Rattle.sheet.specs.Stages.{beginning, after, after_all, cause_of, all_read}
 use Rattle.sheet.specs.Wrongs.{Wrong, NoField}
 use Rattle.sheet.specs.declared.faults.Cause.TheVariants.{Tag}
 use Rattle.sheet.specs.declared.faults.SheetFault.TheVariants.{Ends}

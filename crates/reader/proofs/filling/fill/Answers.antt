@@ -1,12 +1,12 @@
-use Rattle.std.proofs.Common.{◌≡◌, ◌<◌, [], ◌∷◌, ◌++◌, length, Some, None, sym, refl, ap, ◌∙◌, subst, arith}
+use Rattle.std.proofs.Common.{◌≡◌, [], ◌∷◌, ◌++◌, length, Some, sym, refl, ap, ◌∙◌, subst, arith}
 use Rattle.cost.specs.Prices.{figures}
 use Rattle.sheet.specs.Blocks.{block, shown, block_bytes, blocks_bytes}
 use Rattle.sheet.specs.Stages.{stage, beginning, after, after_all, cause_of}
 use Rattle.sheet.specs.Wrongs.{NoField}
 use Rattle.sheet.specs.declared.faults.Cause.TheVariants.{Tag}
 use Rattle.sheet.proofs.Framing.{field_long, next_field}
-use Rattle.reader.specs.Puts.{put_state, put_action, put_outcomes, put_price, Filled}
-use Rattle.reader.proofs.Fillings.{next_right, moved, filled_more, field_short, all_taken, not_stuck}
+use Rattle.reader.specs.Puts.{put_state, put_action, put_outcomes, Filled}
+use Rattle.reader.proofs.Fillings.{moved, filled_more, field_short, all_taken, not_stuck}
 use Rattle.reader.proofs.Fronts.{known_more}
 use Rattle.reader.proofs.Verdicts.{unknown_tag}
 use Rattle.reader.proofs.filling.fill.Goals as goal

@@ -1,4 +1,4 @@
-use Rattle.std.proofs.Common.{◌≡◌, ◌+◌, take, drop}
+use Rattle.std.proofs.Common.{◌≡◌, ◌+◌, drop}
 use Rattle.sheet.specs.Stages.{outcomes_in}
 use Rattle.reader.specs.Puts.{sets}
 use Rattle.reader.proofs.putting.put_outcomes.Given as goal

@@ -1,4 +1,4 @@
-use Rattle.std.proofs.Common.{length, take, sym, ap, subst}
+use Rattle.std.proofs.Common.{length, take, sym, subst}
 use native.Mathlib.Nat.{sub-zero}
 use Rattle.std.proofs.lemmas.Result.{MatchResult-weaker}
 use Rattle.cost.specs.Prices.{figures}

@@ -1,4 +1,4 @@
-use Rattle.std.proofs.Common.{◌≡◌, ℕ, ◌<◌, Bool, List, map, length, set, sym, refl, ap, ◌∙◌, subst, arith}
+use Rattle.std.proofs.Common.{◌≡◌, ℕ, ◌<◌, Bool, map, length, set, sym, refl, ap, ◌∙◌, subst, arith}
 use Rattle.model.specs.Meaning.{is_end, state_at}
 use Rattle.book.specs.Openings.{first_by, entries_of}
 use Rattle.cost.specs.declared.amount.Cost.{Cost}

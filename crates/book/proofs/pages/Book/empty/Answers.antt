@@ -1,8 +1,8 @@
-use Rattle.std.proofs.Common.{◌≡◌, ℕ, ◌<◌, cond, List, length, get_or, sym, refl, ap, ◌∙◌, subst, arith}
+use Rattle.std.proofs.Common.{◌≡◌, ℕ, ◌<◌, cond, length, get_or, sym, refl, ap, ◌∙◌, subst, arith}
 use Rattle.std.proofs.lemmas.List.{length-map}
 use Rattle.cost.specs.declared.amount.Cost.{Cost}
 use Rattle.model.specs.Meaning.{is_end, state_at}
-use Rattle.book.specs.Openings.{first_by, entries_of, opening_bound}
+use Rattle.book.specs.Openings.{first_by, entries_of}
 use Rattle.book.specs.Pages.{Sound, page}
 use Rattle.book.proofs.Firsts.{numbers, cost_written, cost_unwritten}
 use Rattle.book.proofs.OpenedBooks.{emptied_sound}

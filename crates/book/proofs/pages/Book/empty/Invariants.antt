@@ -1,7 +1,7 @@
 use Rattle.std.proofs.Common.{◌≡◌, cond, map, get_or}
 use Rattle.cost.specs.declared.amount.Cost.{Cost}
 use Rattle.model.specs.Meaning.{is_end, state_at}
-use Rattle.book.specs.Openings.{first_by, opening_bound}
+use Rattle.book.specs.Openings.{first_by}
 use Rattle.book.proofs.pages.Book.empty.Given as goal
 
 abbrev pub invariant-loop-state : goal.invariant-loop-state

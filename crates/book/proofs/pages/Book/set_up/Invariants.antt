@@ -1,6 +1,5 @@
-use Rattle.std.proofs.Common.{◌≡◌, cond, map, get_or}
+use Rattle.std.proofs.Common.{◌≡◌, map}
 use Rattle.cost.specs.declared.amount.Cost.{Cost}
-use Rattle.model.specs.Meaning.{is_end, state_at}
 use Rattle.book.specs.Openings.{first_by, opening_bound}
 use Rattle.book.proofs.pages.Book.set_up.Given as goal
 

@@ -1,8 +1,4 @@
-use Rattle.std.proofs.Common.{◌≡◌, ℕ, ◌≤◌, min, false, eqb, List, [], ◌∷◌, length, get_or, sym, ap, ◌∙◌}
-use Rattle.std.proofs.lemmas.List.{get_or_past}
-use Rattle.cost.specs.Costs.{roof}
-use Rattle.model.specs.Meaning.{State}
-use Rattle.book.specs.Openings.{opening_bound}
+use Rattle.std.proofs.Common.{sym, ◌∙◌}
 use Rattle.book.proofs.pages.openings.opening_bound.Goals as goal
 use Rattle.book.proofs.Firsts.{past_estimates}
 

@@ -1,5 +1,5 @@
 use Rattle.std.proofs.Common.{length, sym, ap, ◌∙◌}
-use Rattle.model.specs.Meaning.{outcomes, action_at}
+use Rattle.model.specs.Meaning.{outcomes}
 use Rattle.model.proofs.Trimmed.{action_listed, action_unlisted}
 use Rattle.model.proofs.layers.TrimWorkModel.outcomes.Goals as goal
 

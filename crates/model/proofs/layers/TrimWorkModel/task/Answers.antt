@@ -1,5 +1,5 @@
 use Rattle.std.proofs.Common.{sym, ap, ◌∙◌}
-use Rattle.model.specs.Meaning.{task, action_at}
+use Rattle.model.specs.Meaning.{task}
 use Rattle.model.proofs.Trimmed.{action_listed, action_unlisted}
 use Rattle.model.proofs.layers.TrimWorkModel.task.Goals as goal
 

@@ -1,4 +1,4 @@
-use Rattle.std.proofs.Common.{get_or, arith, rules}
+use Rattle.std.proofs.Common.{get_or, rules}
 use Rattle.std.proofs.lemmas.Result.{err_from_is_err_and}
 use Rattle.valve.specs.Valves.{meaning_of}
 use Rattle.paelwisk.specs.Answers.{Tells}
