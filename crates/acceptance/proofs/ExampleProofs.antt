@@ -1,6 +1,6 @@
 -- Each row of the table passes the test that its costs are fixed, so they are the best costs.
 use Rattle.std.proofs.Common.{◌≡◌, true, List, [], ◌∷◌, length, get_or, refl, arith}
-use Rattle.std.specs.List.{AllByRecursion as All}
+use Rattle.std.specs.List.{AllByRecursion}
 use Rattle.cost.specs.Counting.{Lawful}
 use Rattle.cost.specs.Costs.{roof}
 use Rattle.cost.specs.Rules.{largest}
@@ -27,11 +27,11 @@ unfolding Passes
 row e (opens, long, range, fixed) =
     checked.fixed_is_best e.model (value_of e.rule) e.prices (λ s. get_or e.costs s 0) fixed opens (lawful_of e.rule) (long, checked.priced e.prices range)
 
-rows : (es : List Example) → All Passes es → All IsBest es
+rows : (es : List Example) → AllByRecursion Passes es → AllByRecursion IsBest es
 rows [] p = tt
 rows (e ∷ es) p = (row e p.0, rows es p.1)
 
-all_pass : All Passes examples
+all_pass : AllByRecursion Passes examples
 unfolding Passes
 all_pass = ((refl, refl, refl, refl), ((refl, refl, refl, refl), ((refl, refl, refl, refl), ((refl, refl, refl, refl), ((refl, refl, refl, refl), tt)))))
 

@@ -1,6 +1,6 @@
 -- Worked examples: models, a rule, prices, and the best cost of every state.
 use Rattle.std.specs.Prelude.{ℕ, ◌<◌, List, [], ◌∷◌, length, replicate, slice_index}
-use Rattle.std.specs.List.{AllByRecursion as All}
+use Rattle.std.specs.List.{AllByRecursion}
 use Rattle.cost.specs.Costs.{roof}
 use Rattle.cost.specs.Rules.{largest, capped_sum}
 use Rattle.model.specs.Meaning.{State, End, Open, Free}
@@ -61,7 +61,7 @@ abbrev pub IsBest : Example → Type 0
 IsBest e = (s : ℕ) → s < length e.model → Best e.model (value_of e.rule) e.prices s (slice_index e.costs s)
 
 abbrev pub AllAreBest : Type 0
-AllAreBest = All IsBest examples
+AllAreBest = AllByRecursion IsBest examples
 
 -- Two lists of estimates: the best costs are lawful, and 12 at state 0 is not.
 pub record Estimates : Type 0 where

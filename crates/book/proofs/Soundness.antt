@@ -1,7 +1,7 @@
 -- Events keep a page sound.
 use Rattle.std.proofs.Common.{◌≡◌, ℕ, ◌<◌, ◌≤◌, Bool, true, false, List, [], ◌∷◌, map, sym, refl, ap, ◌∙◌, subst, ⊎_elim, arith}
 use mathlib.Core.Path.{fun_ext}
-use Rattle.std.specs.List.{AllByRecursion as All}
+use Rattle.std.specs.List.{AllByRecursion}
 use Rattle.std.proofs.ByRecursion.{All-weaker}
 use Rattle.std.proofs.lemmas.Bool.{cases_eq}
 use Rattle.cost.specs.Costs.{roof, capped}
@@ -22,7 +22,7 @@ open_shape (End c) e = let z : ◌≡◌ {A = ℕ} 0 1 = cc in absurd (omega ari
 open_shape (Open as') e = (as', refl)
 
 -- Bounds that are equal at each of some states give those states one list of bounds.
-pub map_alike : (v w : Bounds) (P : ℕ → Type 0) → ((o : ℕ) → P o → v o ≡ w o) → (os : List ℕ) → All P os → map v os ≡ map w os
+pub map_alike : (v w : Bounds) (P : ℕ → Type 0) → ((o : ℕ) → P o → v o ≡ w o) → (os : List ℕ) → AllByRecursion P os → map v os ≡ map w os
 map_alike v w P alike [] all = refl
 map_alike v w P alike (o ∷ os) all =
     ap (λ x. x ∷ map v os) (alike o all.0) ∙ ap (λ l. w o ∷ l) (map_alike v w P alike os all.1)

@@ -1,6 +1,6 @@
 -- What a turn of a search does at the last state of its trail.
 use Rattle.std.proofs.Common.{◌≡◌, ℕ, zero, suc, ◌+◌, ◌-◌, ◌<◌, ◌≤◌, false, List, [], ◌∷◌, length, get_or, set, sym, refl, ap, ◌∙◌, subst, ⊎_elim, arith}
-use Rattle.std.specs.List.{AllByRecursion as All}
+use Rattle.std.specs.List.{AllByRecursion}
 use Rattle.std.proofs.ByRecursion.{All-from_get_or}
 use Rattle.std.proofs.lemmas.List.{get_or-set_same, get_or-set_other}
 use Rattle.std.proofs.lemmas.Bool.{cases_Bool, cases_lt, true≢false}
@@ -47,7 +47,7 @@ module _ (m : List State) (value : List ℕ → ℕ) (prices : List ℕ) (start 
   pending s there unplanned within = record { there = there; opened = unplanned_open s there unplanned; unplanned = unplanned; within = within }
 
   module _ (unsettled : (planned_at p start ≡ false) × (bound_at p start ≤ cap)) where
-    -- All states of the trail are pending.
+    -- AllByRecursion states of the trail are pending.
     pending_at : (k : ℕ) → k < trail.depth → Pending m cap p (get_or trail.states k 0)
     pending_at zero h = subst (Pending m cap p) (sym under.first) (pending start known.there unsettled.0 unsettled.1)
     pending_at (suc k) h = under.later (suc k) (omega arith) h
@@ -107,7 +107,7 @@ module _ (m : List State) (value : List ℕ → ℕ) (prices : List ℕ) (start 
         never_full full =
             let states = trail.states in
             let long : length states ≡ trail.depth = trail.whole ∙ sym full in
-            let all : All (λ x. x < length m) (o ∷ states) = (next_pending.there, All-from_get_or (λ x. x < length m) states 0 (λ k h. (pending_at k (omega (arith, h, long))).there)) in
+            let all : AllByRecursion (λ x. x < length m) (o ∷ states) = (next_pending.there, All-from_get_or (λ x. x < length m) states 0 (λ k h. (pending_at k (omega (arith, h, long))).there)) in
             let fresh : Distinct (o ∷ states) = (
               All-from_get_or (λ y. o ≡ y → ⊥) states 0 (λ k h same. let e : bound_at p o ≡ bound_at p (get_or states k 0) = ap (bound_at p) same in omega (arith, e, below k (omega (arith, h, long)))),
               falling_distinct (bound_at p) states (λ i j less h. under.fall i j less (omega (arith, h, long))),

@@ -1,6 +1,6 @@
 -- What a search does to a book, event by event.
 use Rattle.std.specs.Prelude.{◌≡◌, ℕ, suc, ◌<◌, ◌≤◌, true, false, List, [], ◌∷◌, map, length, slice_set}
-use Rattle.std.specs.List.{AllByRecursion as All}
+use Rattle.std.specs.List.{AllByRecursion}
 use Rattle.cost.specs.Costs.{capped}
 use Rattle.model.specs.Meaning.{State, Free, is_end, state_at, action_at}
 use Rattle.plan.specs.Bounds.{least_cost}
@@ -27,7 +27,7 @@ abbrev pub MayHappen : List State → (List ℕ → ℕ) → List ℕ → ℕ �
 MayHappen m value prices cap p (raised s) = Pending m cap p s × (bound_at p s < least_cost m value prices (bound_at p) s)
 MayHappen m value prices cap p (marked s a) =
     Pending m cap p s
-    × ((t : ℕ) × (os : List ℕ) × (action_at m s a ≡ Free t os) × (bound_at p s ≡ capped (price_of prices t) (value (map (bound_at p) os))) × All (λ o. planned_at p o ≡ true) os)
+    × ((t : ℕ) × (os : List ℕ) × (action_at m s a ≡ Free t os) × (bound_at p s ≡ capped (price_of prices t) (value (map (bound_at p) os))) × AllByRecursion (λ o. planned_at p o ≡ true) os)
 
 -- What an event writes.
 abbrev pub after_event : List State → (List ℕ → ℕ) → List ℕ → Page → Event → Page

@@ -1,6 +1,6 @@
 -- What is to be done at a state.
 use Rattle.std.specs.Prelude.{◌≡◌, ℕ, ◌<◌, ◌≤◌, true, false, ◌⊎◌, List, map, length}
-use Rattle.std.specs.List.{ContainsAt as Has, AllByRecursion as All}
+use Rattle.std.specs.List.{ContainsAt as Has, AllByRecursion}
 use Rattle.cost.specs.Costs.{roof, capped}
 use Rattle.model.specs.Meaning.{State, Free, outcomes, action_at}
 use Rattle.model.specs.Reading.{Opens}
@@ -14,7 +14,7 @@ use Rattle.book.specs.declared.pages.looks.Look.TheVariants.{Raise, Mark, Enter,
 -- all outcomes are planned, else the search goes on to an outcome that is not.
 abbrev pub Followed : List State → Page → ℕ → ℕ → Look → Type 0
 Followed m p s a (Raise cost) = ⊥
-Followed m p s a (Mark b) = (b ≡ a) × All (λ o. planned_at p o ≡ true) (outcomes (action_at m s a))
+Followed m p s a (Mark b) = (b ≡ a) × AllByRecursion (λ o. planned_at p o ≡ true) (outcomes (action_at m s a))
 Followed m p s a (Enter o) = Has (outcomes (action_at m s a)) o × (planned_at p o ≡ false)
 Followed m p s a Nothing = (256 ≤ a) ⊎ ((o : ℕ) × Has (outcomes (action_at m s a)) o × (4096 ≤ o))
 
@@ -29,7 +29,7 @@ abbrev pub Seen : List State → (List ℕ → ℕ) → List ℕ → Page → �
 Seen m value prices p s (Raise cost) =
     (s < 4096) × (planned_at p s ≡ false) × (bound_at p s < least_cost m value prices (bound_at p) s) × (cost.value ≡ least_cost m value prices (bound_at p) s)
 Seen m value prices p s (Mark a) =
-    (s < 4096) × (planned_at p s ≡ false) × ((t : ℕ) × (os : List ℕ) × Exact m value prices p s a t os × All (λ o. planned_at p o ≡ true) os)
+    (s < 4096) × (planned_at p s ≡ false) × ((t : ℕ) × (os : List ℕ) × Exact m value prices p s a t os × AllByRecursion (λ o. planned_at p o ≡ true) os)
 Seen m value prices p s (Enter o) =
     (a : ℕ) × (t : ℕ) × (os : List ℕ) × Exact m value prices p s a t os × Has os o × (planned_at p o ≡ false)
 Seen m value prices p s Nothing =

@@ -1,12 +1,12 @@
 -- Facts about the prices of a list as numbers.
 use Rattle.std.proofs.Common.{◌≡◌, ℕ, ◌<◌, ◌≤◌, List, [], ◌∷◌, map, length, get_or, sym, ◌∙◌}
-use Rattle.std.specs.List.{AllByRecursion as All}
+use Rattle.std.specs.List.{AllByRecursion}
 use Rattle.std.proofs.lemmas.List.{get_or-map, length-map}
 use Rattle.cost.specs.declared.prices.Price.{Price}
 use Rattle.cost.specs.declared.prices.PriceList.{PriceList}
 use Rattle.cost.specs.Prices.{figures, price_number, InRange}
 
-all_in_range : (ps : List Price) → All (λ p. (1 ≤ p) × (p ≤ 10000)) (map price_number ps)
+all_in_range : (ps : List Price) → AllByRecursion (λ p. (1 ≤ p) × (p ≤ 10000)) (map price_number ps)
 all_in_range [] = tt
 all_in_range (p ∷ ps) = ((p.low, p.high), all_in_range ps)
 

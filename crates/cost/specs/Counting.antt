@@ -1,6 +1,6 @@
 -- What a counting rule is: a function on lists of costs that keeps four laws.
 use Rattle.std.specs.Prelude.{◌≡◌, ℕ, ◌≤◌, List, length}
-use Rattle.std.specs.List.{AllZip, ContainsAt as Has, AllByRecursion as All}
+use Rattle.std.specs.List.{AllZip, ContainsAt as Has, AllByRecursion}
 use Rattle.std.specs.List.Sorted.{IsPermutation}
 use Rattle.cost.specs.Costs.{roof}
 
@@ -8,7 +8,7 @@ use Rattle.cost.specs.Costs.{roof}
 pub record CostList (costs : List ℕ) : Type 0 where
   pub some : 1 ≤ length costs
   pub few : length costs ≤ 16
-  pub within : All (λ c. c ≤ roof) costs
+  pub within : AllByRecursion (λ c. c ≤ roof) costs
 
 -- What every counting rule keeps, over lists of costs.
 pub record Lawful (value : List ℕ → ℕ) : Type 0 where

@@ -1,7 +1,7 @@
 -- The laws of the largest cost of a list.
 use Rattle.std.specs.Prelude.{◌≡◌, ℕ, ◌≤◌, max, List, [], ◌∷◌, ◌++◌}
 use Rattle.std.proofs.Common.{arith}
-use Rattle.std.specs.List.{AllZip, AllByRecursion as All}
+use Rattle.std.specs.List.{AllZip, AllByRecursion}
 use Rattle.std.specs.List.Sorted.{IsPermutation}
 use Rattle.std.proofs.ByRecursion.{all-has, all_shuffled}
 use Rattle.std.proofs.lemmas.List.Sorted.{IsPermutation-sym}
@@ -14,15 +14,15 @@ largest_push [] c = omega arith
 largest_push (x ∷ l) c = omega (arith, largest_push l c)
 
 -- A bound on every cost is a bound on the largest, and the other way round.
-largest_at_most : (b : ℕ) (l : List ℕ) → All (λ c. c ≤ b) l → largest l ≤ b
+largest_at_most : (b : ℕ) (l : List ℕ) → AllByRecursion (λ c. c ≤ b) l → largest l ≤ b
 largest_at_most b [] all = omega arith
 largest_at_most b (x ∷ l) all = omega (arith, all.0, largest_at_most b l all.1)
 
-each_at_most : (b : ℕ) (l : List ℕ) → largest l ≤ b → All (λ c. c ≤ b) l
+each_at_most : (b : ℕ) (l : List ℕ) → largest l ≤ b → AllByRecursion (λ c. c ≤ b) l
 each_at_most b [] h = tt
 each_at_most b (x ∷ l) h = (omega arith, each_at_most b l (omega arith))
 
-covered : (l : List ℕ) → All (λ c. c ≤ largest l) l
+covered : (l : List ℕ) → AllByRecursion (λ c. c ≤ largest l) l
 covered l = each_at_most (largest l) l (omega arith)
 
 shuffled_at_most : (l m : List ℕ) → IsPermutation l m → largest m ≤ largest l

@@ -1,6 +1,6 @@
 -- What a price list holds.
 use Rattle.std.specs.Prelude.{◌≡◌, ℕ, ◌≤◌, List, map, length}
-use Rattle.std.specs.List.{AllByRecursion as All}
+use Rattle.std.specs.List.{AllByRecursion}
 use Rattle.cost.specs.declared.prices.Price.{Price}
 use Rattle.cost.specs.declared.prices.PriceList.{PriceList}
 use Rattle.cost.specs.declared.prices.Task.{Task}
@@ -19,4 +19,4 @@ figures l = map price_number l.prices
 
 -- The prices of all tasks: 64 numbers, each from 1 to 10,000.
 abbrev pub InRange : List ℕ → Type 0
-InRange ps = (length ps ≡ 64) × All (λ p. (1 ≤ p) × (p ≤ 10000)) ps
+InRange ps = (length ps ≡ 64) × AllByRecursion (λ p. (1 ≤ p) × (p ≤ 10000)) ps

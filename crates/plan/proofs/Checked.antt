@@ -1,6 +1,6 @@
 -- Best costs of a model that is written out, by a test that the checker computes.
 use Rattle.std.proofs.Common.{◌≡◌, ℕ, zero, suc, ◌<◌, ◌≤◌, Bool, true, ◌&&◌, eqb, leb, List, [], ◌∷◌, length, subst, ⊎_elim, arith}
-use Rattle.std.specs.List.{AllByRecursion as All}
+use Rattle.std.specs.List.{AllByRecursion}
 use Rattle.std.proofs.lemmas.Bool.{and_parts, eqb-true, leb-true, cases_lt}
 use Rattle.cost.specs.Counting.{Lawful}
 use Rattle.cost.specs.Prices.{InRange}
@@ -54,7 +54,7 @@ abbrev pub all_priced : List ℕ → Bool
 all_priced [] = true
 all_priced (p ∷ ps) = (leb 1 p && leb p 10000) && all_priced ps
 
-pub priced : (ps : List ℕ) → all_priced ps ≡ true → All (λ p. (1 ≤ p) × (p ≤ 10000)) ps
+pub priced : (ps : List ℕ) → all_priced ps ≡ true → AllByRecursion (λ p. (1 ≤ p) × (p ≤ 10000)) ps
 priced [] e = tt
 priced (p ∷ ps) e =
     let both = and_parts (leb 1 p && leb p 10000) (all_priced ps) e in

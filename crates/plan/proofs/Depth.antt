@@ -1,6 +1,6 @@
 -- A closed and proper plan has a cost: no path along it is longer than there are states.
 use Rattle.std.proofs.Common.{◌≡◌, ℕ, zero, suc, ◌+◌, ◌<◌, ◌≤◌, true, List, [], ◌∷◌, length, get_or, sym, refl, ap, subst, ⊎_elim, arith}
-use Rattle.std.specs.List.{AllByRecursion as All}
+use Rattle.std.specs.List.{AllByRecursion}
 use Rattle.std.proofs.ByRecursion.{All-weaker, has_get_or}
 use Rattle.cost.specs.Costs.{capped}
 use Rattle.model.specs.Meaning.{State, End, Open, is_end, state_at}
@@ -34,8 +34,8 @@ module _ (m : List State) (value : List ℕ → ℕ) (prices : List ℕ) (p : Pl
 
   module _ (start : ℕ) (closed : Closed m p start) (proper : Proper m p start) where
     -- The states from which s was reached are different ones, so they become no more than there are.
-    has_cost : (fuel s : ℕ) (before : List ℕ) → length m ≤ fuel + length before → s < length m → All (λ u. u < length m) before
-        → All (λ u. Path m p u s) before → Distinct (s ∷ before) → Path m p start s → (c : ℕ) × Costs m value prices p s c
+    has_cost : (fuel s : ℕ) (before : List ℕ) → length m ≤ fuel + length before → s < length m → AllByRecursion (λ u. u < length m) before
+        → AllByRecursion (λ u. Path m p u s) before → Distinct (s ∷ before) → Path m p start s → (c : ℕ) × Costs m value prices p s c
     has_cost zero s before room there inside back apart came =
         let few = distinct_few (length m) (s ∷ before) (there, inside) apart in
         absurd (omega arith)

@@ -1,6 +1,6 @@
 -- Lower bounds of the states' costs, and what actions cost by them.
 use Rattle.std.specs.Prelude.{◌≡◌, ℕ, zero, suc, ◌<◌, ◌≤◌, min, Bool, true, false, cond, List, map, length, Some, None, Option, ◌==◌, slice_index}
-use Rattle.std.specs.List.{AllByRecursion as All}
+use Rattle.std.specs.List.{AllByRecursion}
 use Rattle.cost.specs.Costs.{roof, capped}
 use Rattle.cost.specs.declared.amount.Cost.{Cost}
 use Rattle.model.specs.Meaning.{Action, Barred, Free, State, End, Open, is_end, is_free, actions, state_at, action_at}
@@ -71,7 +71,7 @@ no_bounds m = λ s. zero_or_end (state_at m s)
 abbrev pub KeptAt : List State → (List ℕ → ℕ) → List ℕ → Bounds → (ℕ → Bool) → Plan → ℕ → State → Type 0
 KeptAt m value prices v planned kept s (End c) = Unit {0}
 KeptAt m value prices v planned kept s (Open as') =
-    (v s < roof) × ((t : ℕ) × (os : List ℕ) × Takes m kept s t os × (v s ≡ capped (price_of prices t) (value (map v os))) × All (λ o. planned o ≡ true) os)
+    (v s < roof) × ((t : ℕ) × (os : List ℕ) × Takes m kept s t os × (v s ≡ capped (price_of prices t) (value (map v os))) × AllByRecursion (λ o. planned o ≡ true) os)
 
 -- Marks: ends are planned, and every planned state keeps what is promised of it.
 pub record Marks (m : List State) (value : List ℕ → ℕ) (prices : List ℕ) (v : Bounds) (planned : ℕ → Bool) (kept : Plan) : Type 0 where

@@ -1,6 +1,6 @@
 -- Fields that were read, with one field more.
 use Rattle.std.proofs.Common.{◌≡◌, ℕ, ◌<◌, List, [], ◌∷◌, ◌++◌, get_or, None, sym, ap, ◌∙◌, append_assoc, arith, w8, Fits}
-use Rattle.std.specs.List.{AllByRecursion as All}
+use Rattle.std.specs.List.{AllByRecursion}
 use Rattle.std.proofs.ByRecursion.{All-from_get_or}
 use Rattle.sheet.specs.Blocks.{Block, block_bytes, blocks_bytes}
 use Rattle.sheet.specs.Stages.{beginning, cause_of, after, after_all, Right}
@@ -18,5 +18,5 @@ pub known_more : (fs : List Block) (f : Block) → after_all beginning (fs ++ f 
 known_more fs f = after_all_append beginning fs (f ∷ [])
 
 -- What a slice of bytes holds is below 256.
-pub bytes_small : (b : List ℕ) → ((i : ℕ) → Fits w8 (get_or b i 0)) → All (λ x. x < 256) b
+pub bytes_small : (b : List ℕ) → ((i : ℕ) → Fits w8 (get_or b i 0)) → AllByRecursion (λ x. x < 256) b
 bytes_small b typed = All-from_get_or (λ x. x < 256) b 0 (λ i h. omega (arith, (typed i).fits))

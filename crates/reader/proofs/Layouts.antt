@@ -1,6 +1,6 @@
 -- Where the states, actions and outcomes of a model go in tables, and that the tables then mean it.
 use Rattle.std.proofs.Common.{◌≡◌, ℕ, ◌+◌, true, cond, List, [], ◌∷◌, ◌++◌, map, length, take, sym, refl, ap, ◌∙◌, append_assoc, add-zero, arith, length-append}
-use Rattle.std.specs.List.{flat_map, AllByRecursion as All}
+use Rattle.std.specs.List.{flat_map, AllByRecursion}
 use Rattle.std.proofs.lemmas.List.{take_at, drop_at}
 use Rattle.model.specs.Meaning.{Action, Barred, Free, State, End, Open, is_free, task, actions, outcomes}
 use Rattle.sheet.proofs.Runs.{joined_append}
@@ -32,7 +32,7 @@ state_rows a (s ∷ ss) = state_row a s ∷ state_rows (a + length (actions s)) 
 
 -- No action of a state is barred.
 abbrev pub Unbarred : State → Type 0
-Unbarred s = All (λ x. is_free x ≡ true) (actions s)
+Unbarred s = AllByRecursion (λ x. is_free x ≡ true) (actions s)
 
 pub length_state_rows : (a : ℕ) (ss : List State) → length (state_rows a ss) ≡ length ss
 length_state_rows a [] = refl
@@ -66,7 +66,7 @@ part_middle front middle back first count f m =
     ∙ take_at middle back count m
 
 -- The rows of actions mean the actions, in a table of outcomes that holds theirs.
-pub actions_mean : (front back : List ℕ) (xs : List Action) → All (λ x. is_free x ≡ true) xs → map (table_action (front ++ (flat_map outcomes xs ++ back))) (action_rows (length front) xs) ≡ xs
+pub actions_mean : (front back : List ℕ) (xs : List Action) → AllByRecursion (λ x. is_free x ≡ true) xs → map (table_action (front ++ (flat_map outcomes xs ++ back))) (action_rows (length front) xs) ≡ xs
 actions_mean front back [] free = refl
 actions_mean front back (Barred ∷ xs) free = let z : ◌≡◌ {A = ℕ} 0 1 = ap (λ b. cond b 1 0) free.0 in absurd (omega arith)
 actions_mean front back (Free t os ∷ xs) free =
@@ -106,7 +106,7 @@ module _ (before acts : List ActionRow) (front back : List ℕ) (xs ys : List Ac
   actions_later = actions_split ∙ sym (append_assoc before own (later ++ acts))
 
   -- The actions of the state, as its row names them.
-  pub state_means : All (λ x. is_free x ≡ true) xs → map (table_action (front ++ (flat_map outcomes (xs ++ ys) ++ back))) (part (before ++ (action_rows (length front) (xs ++ ys) ++ acts)) (span (length before) (length xs))) ≡ xs
+  pub state_means : AllByRecursion (λ x. is_free x ≡ true) xs → map (table_action (front ++ (flat_map outcomes (xs ++ ys) ++ back))) (part (before ++ (action_rows (length front) (xs ++ ys) ++ acts)) (span (length before) (length xs))) ≡ xs
   state_means free =
       let outs = front ++ (flat_map outcomes (xs ++ ys) ++ back) in
       let named : part (before ++ (action_rows (length front) (xs ++ ys) ++ acts)) (span (length before) (length xs)) ≡ own =
@@ -132,7 +132,7 @@ others_mean before acts front back xs ss mean =
     ∙ ap (λ i. table_meaning (state_rows i ss) ((before ++ own) ++ (action_rows (length (front ++ flat_map outcomes xs)) J ++ acts)) ((front ++ flat_map outcomes xs) ++ (flat_map outcomes J ++ back))) place
     ∙ mean
 
-pub states_mean : (ss : List State) (before acts : List ActionRow) (front back : List ℕ) → All Unbarred ss → Mean ss before acts front back
+pub states_mean : (ss : List State) (before acts : List ActionRow) (front back : List ℕ) → AllByRecursion Unbarred ss → Mean ss before acts front back
 states_mean [] before acts front back free = refl
 states_mean (End c ∷ ss) before acts front back free =
     ap (λ l. End c ∷ l) (others_mean before acts front back [] ss (states_mean ss (before ++ []) acts (front ++ []) back free.1))

@@ -1,6 +1,6 @@
 -- What was read from right fields up to the last state.
 use Rattle.std.proofs.Common.{◌≡◌, ℕ, ◌<◌, ◌≤◌, true, ltb, List, [], ◌++◌, length, take, drop, replicate, Some, Option, sym, refl, ap, ◌∙◌, subst}
-use Rattle.std.specs.List.{flat_map, AllByRecursion as All}
+use Rattle.std.specs.List.{flat_map, AllByRecursion}
 use Rattle.std.proofs.ByRecursion.{All-weaker}
 use Rattle.std.proofs.lemmas.List.{take_at, drop_at}
 use Rattle.std.proofs.lemmas.Bool.{lt-ltb, le-ltb}
@@ -49,14 +49,14 @@ free_state : (n : ℕ) (s : State) → StateRight n s → Unbarred s
 free_state n (End c) right = tt
 free_state n (Open as') right = All-weaker (ActionRight n) (λ x. is_free x ≡ true) (free_action n) as' right.1
 
-module _ (bytes : List ℕ) (small : All (λ x. x < 256) bytes) (d : Stage) (whole : Whole bytes d) where
+module _ (bytes : List ℕ) (small : AllByRecursion (λ x. x < 256) bytes) (d : Stage) (whole : Whole bytes d) where
   abbrev fs : List Block
   fs = whole.blocks
 
   -- The bytes are the sheet of the model and the prices that the fields say.
   pub stood : Stands bytes (model_in whole.blocks) (prices_in whole.blocks)
   stood =
-      let made = whole_writable fs (subst (All (λ x. x < 256)) whole.same small) whole.right (subst (λ e. all_read e ≡ true) whole.known whole.read) in
+      let made = whole_writable fs (subst (AllByRecursion (λ x. x < 256)) whole.same small) whole.right (subst (λ e. all_read e ≡ true) whole.known whole.read) in
       record { writable = made.0; same = whole.same ∙ ap blocks_bytes (sym made.1); few = whole.few }
 
   -- The stage counts that model.

@@ -1,6 +1,6 @@
 -- What is wrong with bytes, by the fields that were read and the one that was refused.
 use Rattle.std.proofs.Common.{◌≡◌, ℕ, ◌-◌, ◌<◌, ◌≤◌, Bool, true, false, cond, not, ◌⊎◌, List, [], ◌∷◌, ◌++◌, length, Some, None, sym, refl, ap, ◌∙◌, subst, inl, inr, ⊎_elim, arith, length-append}
-use Rattle.std.specs.List.{AllByRecursion as All}
+use Rattle.std.specs.List.{AllByRecursion}
 use Rattle.std.proofs.lemmas.List.{append-nil}
 use Rattle.model.specs.Firsts.{when, first_of}
 use Rattle.model.specs.Meaning.{State}
@@ -25,11 +25,11 @@ by_tests true false c e h = inr (inl (cc, refl, refl))
 by_tests true true false e h = inr (inr (cc, refl, refl))
 by_tests true true true e h = let z : ◌≡◌ {A = ℕ} 0 1 = cc in absurd (omega arith)
 
-module _ (bytes : List ℕ) (small : All (λ x. x < 256) bytes) (few : length bytes ≤ 65536) (fs : List Block) (right : Right beginning fs) where
+module _ (bytes : List ℕ) (small : AllByRecursion (λ x. x < 256) bytes) (few : length bytes ≤ 65536) (fs : List Block) (right : Right beginning fs) where
   reached : (rest : List ℕ) → bytes ≡ blocks_bytes fs ++ rest → Reached bytes (length (blocks_bytes fs)) fs rest
   reached rest split =
       record {
-        begins = right_begins fs (all_parts (λ x. x < 256) (blocks_bytes fs) rest (subst (All (λ x. x < 256)) split small)).0 right;
+        begins = right_begins fs (all_parts (λ x. x < 256) (blocks_bytes fs) rest (subst (AllByRecursion (λ x. x < 256)) split small)).0 right;
         bytes_split = split;
         place_is = refl;
       }

@@ -1,6 +1,6 @@
 -- Nothing is wrong with the fields of a model and its prices, and they say the model and the prices.
 use Rattle.std.proofs.Common.{◌≡◌, ℕ, suc, ◌+◌, ◌-◌, ◌*◌, ◌<◌, ◌≤◌, true, eqb, ltb, List, [], ◌∷◌, ◌++◌, length, replicate, None, sym, refl, ap, ◌∙◌, subst, ap₂, ⊎_elim, arith}
-use Rattle.std.specs.List.{flat_map, AllByRecursion as All}
+use Rattle.std.specs.List.{flat_map, AllByRecursion}
 use Rattle.std.proofs.lemmas.List.{append-nil, append_assoc, length-append, length_push, length-replicate, replicate_more}
 use Rattle.std.proofs.lemmas.Bool.{cases_eq, and_from, eq-eqb, lt-ltb}
 use Rattle.model.specs.Meaning.{Action, Barred, Free, State, End, Open}
@@ -32,7 +32,7 @@ follows_more d c e f h none same = subst (Follows (after d f)) same (grow_follow
 
 -- The actions of a state that has room for them.
 reads-actions :
-    (n : ℕ) (ps : List ℕ) (done : List State) (bs as' : List Action) (d : Stage) → Follows d (content n ps done (Open as' ∷ [])) → All (ActionRight n) bs → d.room + length as' ≡ 16 → length as' + length bs ≤ 16 →
+    (n : ℕ) (ps : List ℕ) (done : List State) (bs as' : List Action) (d : Stage) → Follows d (content n ps done (Open as' ∷ [])) → AllByRecursion (ActionRight n) bs → d.room + length as' ≡ 16 → length as' + length bs ≤ 16 →
     Reads d (content n ps done (Open as' ∷ [])) (flat_map action_fields bs) (content n ps done (Open (as' ++ bs) ∷ []))
 reads-actions n ps done [] as' d f right fits few = (tt, ap (λ l. content n ps done (Open l ∷ [])) (sym (append-nil as')))
 reads-actions n ps done (Barred ∷ bs) as' d f right fits few = absurd right.0
@@ -65,7 +65,7 @@ states_after d c e fs gs m r counts prices s =
     )
 
 reads-states :
-    (n : ℕ) (ps : List ℕ) (xs : List State) (done latest : List State) (d : Stage) → Follows d (content n ps done latest) → All (StateRight n) xs → length (done ++ latest) + length xs ≤ n →
+    (n : ℕ) (ps : List ℕ) (xs : List State) (done latest : List State) (d : Stage) → Follows d (content n ps done latest) → AllByRecursion (StateRight n) xs → length (done ++ latest) + length xs ≤ n →
     ReadsStates d (content n ps done latest) (flat_map state_fields xs) ((done ++ latest) ++ xs)
 reads-states n ps [] done latest d f right few = (tt, (refl, refl, sym (append-nil (done ++ latest))))
 reads-states n ps (End k ∷ xs) done latest d f right few =
@@ -132,7 +132,7 @@ prices_more :
 prices_more n d qs us f fs t ps none same r = ((none, r.0), (r.1.0, (ap (λ x. grow_all x fs) same ∙ r.1.1.0, r.1.1.1, r.1.1.2)))
 
 reads-prices :
-    (n : ℕ) (rs : List ℕ) (t : ℕ) (qs : List ℕ) (d : Stage) → Follows d (content n qs [] []) → 0 < n → length qs ≤ t → t + length rs ≤ 64 → All (λ p. (1 ≤ p) × (p ≤ 10000)) rs →
+    (n : ℕ) (rs : List ℕ) (t : ℕ) (qs : List ℕ) (d : Stage) → Follows d (content n qs [] []) → 0 < n → length qs ≤ t → t + length rs ≤ 64 → AllByRecursion (λ p. (1 ≤ p) × (p ≤ 10000)) rs →
     ReadsPrices n d qs (price_fields t rs) (t + length rs) ((qs ++ replicate (t - length qs) 1) ++ rs)
 reads-prices n [] t qs d f some before few right =
     let same : t + 0 - length qs ≡ t - length qs = omega arith in

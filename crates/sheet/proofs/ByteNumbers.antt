@@ -1,6 +1,6 @@
 -- Numbers written as bytes, and read again.
 use Rattle.std.proofs.Common.{◌≡◌, ℕ, ◌+◌, ◌*◌, ◌/◌, ◌%◌, ◌<◌, List, [], ◌∷◌, ◌++◌, length, refl, ◌∙◌, ap₂, arith}
-use Rattle.std.specs.List.{flat_map, AllByRecursion as All}
+use Rattle.std.specs.List.{flat_map, AllByRecursion}
 use Rattle.sheet.specs.Blocks.{two, four}
 use Rattle.sheet.specs.Stages.{pair_at, pairs, end_cost_in}
 
@@ -21,7 +21,7 @@ pairs_joined [] = refl
 pairs_joined (o ∷ os) = ap₂ {C = List ℕ} (λ x xs. x ∷ xs) (two_back o) (pairs_joined os)
 
 -- Bytes of even length are those of the numbers that they stand for.
-pub joined_pairs : (b : List ℕ) → length b % 2 ≡ 0 → All (λ x. x < 256) b → flat_map two (pairs b) ≡ b
+pub joined_pairs : (b : List ℕ) → length b % 2 ≡ 0 → AllByRecursion (λ x. x < 256) b → flat_map two (pairs b) ≡ b
 joined_pairs [] e h = refl
 joined_pairs (x ∷ []) e h = absurd (omega arith)
 joined_pairs (x ∷ (y ∷ r)) e h =
@@ -41,7 +41,7 @@ length_joined_two (o ∷ os) = let ih = length_joined_two os in omega arith
 pub end_cost_in_four : (c : ℕ) → end_cost_in (four c) ≡ c
 end_cost_in_four c = omega arith
 
-pub four_of : (b : List ℕ) → length b ≡ 4 → All (λ x. x < 256) b → four (end_cost_in b) ≡ b
+pub four_of : (b : List ℕ) → length b ≡ 4 → AllByRecursion (λ x. x < 256) b → four (end_cost_in b) ≡ b
 four_of [] e h = absurd (omega arith)
 four_of (x ∷ []) e h = absurd (omega arith)
 four_of (x ∷ (y ∷ [])) e h = absurd (omega arith)

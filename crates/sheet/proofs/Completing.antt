@@ -1,6 +1,6 @@
 -- Fields of which nothing is wrong are the first fields of a sheet, and all of them where every state was read.
 use Rattle.std.proofs.Common.{◌≡◌, ℕ, ◌+◌, ◌-◌, ◌<◌, ◌≤◌, true, eqb, ltb, List, [], ◌∷◌, ◌++◌, length, replicate, sym, refl, ap, ◌∙◌, subst, ap₂, ⊎_elim, arith}
-use Rattle.std.specs.List.{flat_map, AllByRecursion as All}
+use Rattle.std.specs.List.{flat_map, AllByRecursion}
 use Rattle.std.proofs.lemmas.List.{append-nil, append_assoc, length-append, length-replicate}
 use Rattle.std.proofs.ByRecursion.{All-append}
 use Rattle.std.proofs.lemmas.Bool.{cases_lt, and_parts, cond-true, eqb-true, eq-eqb, ltb-true}
@@ -29,7 +29,7 @@ completed c m rest some e l =
     ∙ sym (append_assoc (price_fields 0 c.prices) (flat_map state_fields (states_of c)) (flat_map state_fields rest)))
     ∙ sym (ap (λ l. l ++ flat_map state_fields rest) (written c some))
 
--- All 64 prices are in range.
+-- AllByRecursion 64 prices are in range.
 filled_right : (d : Stage) (c : Content) → Follows d c → InRange (prices_of c)
 filled_right d c f = (
   length-append c.prices (replicate (64 - length c.prices) 1) ∙ omega (arith, length-replicate {A = ℕ} (64 - length c.prices) 1, f.tasks_few),
@@ -57,16 +57,16 @@ some_begins d c fs f some e =
     let rest : List State = replicate left (Open []) in
     let m : List State = states_of c ++ rest in
     let many : length m ≡ n = length-append (states_of c) rest ∙ omega (arith, length-replicate {A = State} left (Open []), f.states_few) in
-    let right : All (StateRight n) m = All-append (StateRight n) (states_of c) rest f.states_right (all_replicate (StateRight n) left (Open []) (omega arith, tt)) in
+    let right : AllByRecursion (StateRight n) m = All-append (StateRight n) (states_of c) rest f.states_right (all_replicate (StateRight n) left (Open []) (omega arith, tt)) in
     record {
       model = m;
       prices = prices_of c;
       more = flat_map state_fields rest;
-      writable = writable_from m (prices_of c) (omega arith) (omega (arith, f.count_few)) (subst (λ k. All (StateRight k) m) (sym many) right) (filled_right d c f);
+      writable = writable_from m (prices_of c) (omega arith) (omega (arith, f.count_few)) (subst (λ k. AllByRecursion (StateRight k) m) (sym many) right) (filled_right d c f);
       first = completed c m rest some refl many ∙ ap (λ l. l ++ flat_map state_fields rest) e;
     }
 
-module _ (fs : List Block) (small : All (λ x. x < 256) (blocks_bytes fs)) (r : Right beginning fs) where
+module _ (fs : List Block) (small : AllByRecursion (λ x. x < 256) (blocks_bytes fs)) (r : Right beginning fs) where
   pub right_begins : Begins fs
   right_begins =
       let c = grow_all nothing fs in
@@ -86,6 +86,6 @@ module _ (fs : List Block) (small : All (λ x. x < 256) (blocks_bytes fs)) (r : 
       let parts = and_parts (ltb 0 d.count) (eqb d.states d.count) whole in
       let some : 0 < c.count = omega (arith, ltb-true 0 d.count parts.0, f.count_is) in
       let many : length (states_of c) ≡ c.count = sym f.states_is ∙ eqb-true d.states d.count parts.1 ∙ f.count_is in (
-        writable_from (states_of c) (prices_of c) (omega arith) (omega (arith, f.count_few)) (subst (λ k. All (StateRight k) (states_of c)) (sym many) f.states_right) (filled_right d c f),
+        writable_from (states_of c) (prices_of c) (omega arith) (omega (arith, f.count_few)) (subst (λ k. AllByRecursion (StateRight k) (states_of c)) (sym many) f.states_right) (filled_right d c f),
         completed c (states_of c) [] some (sym (append-nil (states_of c))) many ∙ append-nil (fields_of c) ∙ right_fields fs small r,
       )

@@ -1,6 +1,6 @@
 -- What the fields of a sheet say so far, and that a stage counts it.
 use Rattle.std.proofs.Common.{◌≡◌, ℕ, ◌+◌, ◌-◌, ◌≤◌, true, cond, eqb, ◌⊎◌, List, [], ◌∷◌, ◌++◌, map, length, get_or, replicate}
-use Rattle.std.specs.List.{flat_map, AllByRecursion as All}
+use Rattle.std.specs.List.{flat_map, AllByRecursion}
 use Rattle.model.specs.Meaning.{Action, Barred, Free, State, End, Open, actions, outcomes}
 use Rattle.sheet.specs.Blocks.{Block, block}
 use Rattle.sheet.specs.Stages.{Stage, pair_at, outcomes_in, end_cost_in, rising}
@@ -58,7 +58,7 @@ ActionRight n (Free t os) = (t ≤ 63) × (1 ≤ length os) × (length os ≤ 16
 
 abbrev pub StateRight : ℕ → State → Type 0
 StateRight n (End c) = c ≤ 1000000
-StateRight n (Open as') = (length as' ≤ 16) × All (ActionRight n) as'
+StateRight n (Open as') = (length as' ≤ 16) × AllByRecursion (ActionRight n) as'
 
 -- The latest state may have no more actions, or is open and has so many that `room` are left of 16.
 abbrev pub RoomIs : ℕ → List State → Type 0
@@ -76,5 +76,5 @@ pub record Follows (d : Stage) (c : Content) : Type 0 where
   pub states_few : length (states_of c) ≤ c.count
   pub tasks_few : length c.prices ≤ 64
   pub unread : c.count ≡ 0 → c.prices ≡ []
-  pub prices_right : All (λ p. (1 ≤ p) × (p ≤ 10000)) c.prices
-  pub states_right : All (StateRight c.count) (states_of c)
+  pub prices_right : AllByRecursion (λ p. (1 ≤ p) × (p ≤ 10000)) c.prices
+  pub states_right : AllByRecursion (StateRight c.count) (states_of c)

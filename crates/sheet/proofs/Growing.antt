@@ -1,6 +1,6 @@
 -- Fields of which nothing is wrong keep the limits, and a stage counts what they say.
 use Rattle.std.proofs.Common.{◌≡◌, ℕ, ◌+◌, ◌-◌, ◌/◌, ◌%◌, ◌<◌, ◌≤◌, true, List, [], ◌∷◌, ◌++◌, map, length, get_or, drop, replicate, None, sym, refl, ap, ◌∙◌, subst, inl, inr, ⊎_elim, arith}
-use Rattle.std.specs.List.{flat_map, AllByRecursion as All}
+use Rattle.std.specs.List.{flat_map, AllByRecursion}
 use Rattle.std.proofs.lemmas.List.{length-append, length-replicate, length_push, length-drop, nil_from_length}
 use Rattle.std.proofs.ByRecursion.{All-append, All-push}
 use Rattle.model.specs.Meaning.{Action, Free, State, End, Open, actions, outcomes}
@@ -38,7 +38,7 @@ module _ (d : Stage) (c : Content) (b : List ℕ) (f : Follows d c) where
         tasks_few = f.tasks_few;
         unread = λ e. absurd (omega arith);
         prices_right = f.prices_right;
-        states_right = subst (All (StateRight (pair_at b 0))) (sym empty) tt;
+        states_right = subst (AllByRecursion (StateRight (pair_at b 0))) (sym empty) tt;
       }
 
   grow_price : 0 < d.count → d.task ≤ get_or b 0 0 → get_or b 0 0 ≤ 63 → 2 ≤ pair_at b 1 → pair_at b 1 ≤ 10000 → Follows (after d (block 2 b)) (grow c (block 2 b))
@@ -103,7 +103,7 @@ module _ (d : Stage) (c : Content) (b : List ℕ) (f : Follows d c) where
       let outcomes-new = ap (λ l. length (flat_map outcomes (flat_map actions l))) new ∙ outcomes_more done (Open (as' ++ a ∷ [])) in
       let one_more = length_push as' a in
       let places_more : length (flat_map outcomes (as' ++ a ∷ [])) ≡ length (flat_map outcomes as') + length (outcomes_in b) = ap length (joined_push outcomes as' a) ∙ length-append (flat_map outcomes as') (outcomes_in b) in
-      let parts = all_parts (StateRight n) done (Open as' ∷ []) (subst (All (StateRight n)) old f.states_right) in
+      let parts = all_parts (StateRight n) done (Open as' ∷ []) (subst (AllByRecursion (StateRight n)) old f.states_right) in
       let action : ActionRight n a = (h5, omega arith, omega arith, subst (λ k. rising k 0 (outcomes_in b) ≡ true) f.count_is h6) in
       let state : StateRight n (Open (as' ++ a ∷ [])) = (omega arith, All-push (ActionRight n) as' a parts.1.0.1 action) in
       record {
@@ -118,7 +118,7 @@ module _ (d : Stage) (c : Content) (b : List ℕ) (f : Follows d c) where
         tasks_few = f.tasks_few;
         unread = f.unread;
         prices_right = f.prices_right;
-        states_right = subst (All (StateRight n)) (sym new) (All-push (StateRight n) done (Open (as' ++ a ∷ [])) parts.0 state);
+        states_right = subst (AllByRecursion (StateRight n)) (sym new) (All-push (StateRight n) done (Open (as' ++ a ∷ [])) parts.0 state);
       }
 
   grow_kind : {t : ℕ} → Kind d b t → Follows (after d (block t b)) (grow c (block t b))

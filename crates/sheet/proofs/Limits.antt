@@ -1,6 +1,6 @@
 -- A model opens and bars nothing exactly when its states keep the limits.
 use Rattle.std.proofs.Common.{◌≡◌, ℕ, zero, suc, ◌-◌, ◌<◌, ◌≤◌, true, ◌&&◌, ltb, leb, List, [], ◌∷◌, length, get_or, Some, None, Option, sym, refl, subst, inl, inr, ⊎_elim, arith}
-use Rattle.std.specs.List.{AllByRecursion as All}
+use Rattle.std.specs.List.{AllByRecursion}
 use Rattle.std.proofs.ByRecursion.{All-get_or, All-from_get_or}
 use Rattle.std.proofs.lemmas.Bool.{cases_lt, and_parts, and_from, leb-true, le-leb, ltb-true, lt-ltb}
 use Rattle.cost.specs.Prices.{InRange}
@@ -62,7 +62,7 @@ module _ (n : ℕ) where
   action_from Barred e h some few r = never (cc)
   action_from (Free t os) e h some few r = (h, some, few, r)
 
-  state_actions : (x : State) → StateRight n x → (length (actions x) ≤ 16) × All (ActionRight n) (actions x)
+  state_actions : (x : State) → StateRight n x → (length (actions x) ≤ 16) × AllByRecursion (ActionRight n) (actions x)
   state_actions (End c) h = (omega arith, tt)
   state_actions (Open as') h = (h.0, h.1)
 
@@ -70,11 +70,11 @@ module _ (n : ℕ) where
   state_cost (End c) h = h
   state_cost (Open as') h = omega arith
 
-  state_from : (x : State) → length (actions x) ≤ 16 → end_cost x ≤ 1000000 → All (ActionRight n) (actions x) → StateRight n x
+  state_from : (x : State) → length (actions x) ≤ 16 → end_cost x ≤ 1000000 → AllByRecursion (ActionRight n) (actions x) → StateRight n x
   state_from (End c) few small right = small
   state_from (Open as') few small right = (few, right)
 
-module _ (m : List State) (some : 1 ≤ length m) (few : length m ≤ 4096) (right : All (StateRight (length m)) m) where
+module _ (m : List State) (some : 1 ≤ length m) (few : length m ≤ 4096) (right : AllByRecursion (StateRight (length m)) m) where
   state_right : (s : ℕ) → s < length m → StateRight (length m) (state_at m s)
   state_right s h = All-get_or (StateRight (length m)) m s (Open []) h right
 
@@ -148,9 +148,9 @@ module _ (m : List State) (ps : List ℕ) (w : Writable m ps) where
       (⊎_elim (λ l. absurd (no_fault (EndCost s) (there, l))) (λ r. r) (cases_lt 1000000 (end_cost x)))
       (All-from_get_or (ActionRight (length m)) (actions x) Barred (λ a h. action_limits s a (there, h)))
 
-  pub right_from_opens : (1 ≤ length m) × (length m ≤ 4096) × All (StateRight (length m)) m
+  pub right_from_opens : (1 ≤ length m) × (length m ≤ 4096) × AllByRecursion (StateRight (length m)) m
   right_from_opens = (few_states.0, few_states.1, All-from_get_or (StateRight (length m)) m (Open []) state_limits)
 
 -- A model that keeps the limits has a sheet with any prices in range.
-pub writable_from : (m : List State) (ps : List ℕ) → 1 ≤ length m → length m ≤ 4096 → All (StateRight (length m)) m → InRange ps → Writable m ps
+pub writable_from : (m : List State) (ps : List ℕ) → 1 ≤ length m → length m ≤ 4096 → AllByRecursion (StateRight (length m)) m → InRange ps → Writable m ps
 writable_from m ps some few right range = record { opens = opens_from_right m some few right; free = free_from_right m some few right; prices = range }

@@ -1,6 +1,6 @@
 -- What fields say, written again, are the fields.
 use Rattle.std.proofs.Common.{◌≡◌, ℕ, zero, suc, ◌+◌, ◌-◌, ◌%◌, ◌<◌, ◌≤◌, cond, eqb, List, [], ◌∷◌, ◌++◌, map, length, get_or, replicate, None, sym, refl, ap, ◌∙◌, ap₂, ⊎_elim, arith}
-use Rattle.std.specs.List.{flat_map, AllByRecursion as All}
+use Rattle.std.specs.List.{flat_map, AllByRecursion}
 use Rattle.std.proofs.lemmas.List.{append-nil, append_assoc, length-append, length-replicate, nil_from_length}
 use Rattle.std.proofs.lemmas.Bool.{cond-true, cond-false, eq-eqb, ne_eqb}
 use Rattle.model.specs.Meaning.{Free, End, Open}
@@ -33,20 +33,20 @@ pub price_field_is : (t p : ℕ) → 2 ≤ p → price_field t p ≡ block 2 (t 
 price_field_is t p h = cond-false (eqb p 1) [] (block 2 (t ∷ two p) ∷ []) (ne_eqb p 1 (λ e. omega arith))
 
 -- The bodies of the kinds of fields, read and written again.
-pub states_body : (b : List ℕ) → length b ≡ 2 → All (λ x. x < 256) b → two (pair_at b 0) ≡ b
+pub states_body : (b : List ℕ) → length b ≡ 2 → AllByRecursion (λ x. x < 256) b → two (pair_at b 0) ≡ b
 states_body [] e h = absurd (omega arith)
 states_body (x ∷ []) e h = absurd (omega arith)
 states_body (x ∷ (y ∷ [])) e h = two_of x y h.0 h.1.0
 states_body (x ∷ (y ∷ (z ∷ r))) e h = absurd (omega arith)
 
-pub price_body : (b : List ℕ) → length b ≡ 3 → All (λ x. x < 256) b → get_or b 0 0 ∷ two (pair_at b 1) ≡ b
+pub price_body : (b : List ℕ) → length b ≡ 3 → AllByRecursion (λ x. x < 256) b → get_or b 0 0 ∷ two (pair_at b 1) ≡ b
 price_body [] e h = absurd (omega arith)
 price_body (x ∷ []) e h = absurd (omega arith)
 price_body (x ∷ (y ∷ [])) e h = absurd (omega arith)
 price_body (x ∷ (y ∷ (z ∷ []))) e h = ap (λ l. x ∷ l) (two_of y z h.1.0 h.1.1.0)
 price_body (x ∷ (y ∷ (z ∷ (w ∷ r)))) e h = absurd (omega arith)
 
-pub action_body : (b : List ℕ) → length b % 2 ≡ 1 → All (λ x. x < 256) b → get_or b 0 0 ∷ flat_map two (outcomes_in b) ≡ b
+pub action_body : (b : List ℕ) → length b % 2 ≡ 1 → AllByRecursion (λ x. x < 256) b → get_or b 0 0 ∷ flat_map two (outcomes_in b) ≡ b
 action_body [] e h = absurd (omega arith)
 action_body (x ∷ r) e h = ap (λ l. x ∷ l) (joined_pairs r (omega arith) h.1)
 
@@ -70,7 +70,7 @@ states_more c e f h same prices more =
     written-more c e f h same
     (ap₂ (λ ps r. price_fields 0 ps ++ r) prices more ∙ sym (append_assoc (price_fields 0 c.prices) (flat_map state_fields (states_of c)) (f ∷ [])))
 
-module _ (d : Stage) (c : Content) (b : List ℕ) (f : Follows d c) (small : All (λ x. x < 256) b) where
+module _ (d : Stage) (c : Content) (b : List ℕ) (f : Follows d c) (small : AllByRecursion (λ x. x < 256) b) where
   kind_fields : {t : ℕ} → Kind d b t → fields_of (grow c (block t b)) ≡ fields_of c ++ block t b ∷ []
   kind_fields (states_kind h1 h2 h3 h4) =
       let zero-count : c.count ≡ 0 = omega (arith, f.count_is) in
@@ -125,14 +125,14 @@ module _ (d : Stage) (c : Content) (b : List ℕ) (f : Follows d c) (small : All
       (new ∙ sym (append_assoc (flat_map state_fields done) (block 4 [] ∷ flat_map action_fields as') (block 5 b ∷ [])) ∙ ap (λ l. l ++ block 5 b ∷ []) (sym old)))
       f.room_is
 
-pub grow_fields : (d : Stage) (c : Content) (f : Block) → Follows d c → cause_of d f ≡ None → All (λ x. x < 256) (body_of f) → fields_of (grow c f) ≡ fields_of c ++ f ∷ []
+pub grow_fields : (d : Stage) (c : Content) (f : Block) → Follows d c → cause_of d f ≡ None → AllByRecursion (λ x. x < 256) (body_of f) → fields_of (grow c f) ≡ fields_of c ++ f ∷ []
 grow_fields d c (block t b) f e small = kind_fields d c b f small (kind_of d b t e)
 
 -- The bytes of a field hold those of its body.
-body_small : (f : Block) → All (λ x. x < 256) (block_bytes f) → All (λ x. x < 256) (body_of f)
+body_small : (f : Block) → AllByRecursion (λ x. x < 256) (block_bytes f) → AllByRecursion (λ x. x < 256) (body_of f)
 body_small (block t b) h = h.1.1.1
 
-fields_all : (d : Stage) (c : Content) (fs : List Block) → Follows d c → Right d fs → All (λ x. x < 256) (blocks_bytes fs) → fields_of (grow_all c fs) ≡ fields_of c ++ fs
+fields_all : (d : Stage) (c : Content) (fs : List Block) → Follows d c → Right d fs → AllByRecursion (λ x. x < 256) (blocks_bytes fs) → fields_of (grow_all c fs) ≡ fields_of c ++ fs
 fields_all d c [] f r small = sym (append-nil (fields_of c))
 fields_all d c (g ∷ fs) f r small =
     let parts = all_parts (λ x. x < 256) (block_bytes g) (blocks_bytes fs) small in
@@ -140,5 +140,5 @@ fields_all d c (g ∷ fs) f r small =
     ∙ ap (λ l. l ++ fs) (grow_fields d c g f r.0 (body_small g parts.0))
     ∙ append_assoc (fields_of c) (g ∷ []) fs
 
-pub right_fields : (fs : List Block) → All (λ x. x < 256) (blocks_bytes fs) → Right beginning fs → fields_of (grow_all nothing fs) ≡ fs
+pub right_fields : (fs : List Block) → AllByRecursion (λ x. x < 256) (blocks_bytes fs) → Right beginning fs → fields_of (grow_all nothing fs) ≡ fs
 right_fields fs small r = fields_all beginning nothing fs nothing_follows r small

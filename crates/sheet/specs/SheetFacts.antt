@@ -1,6 +1,6 @@
 -- What is true of all sheets.
 use Rattle.std.specs.Prelude.{◌≡◌, ℕ, ◌<◌, List}
-use Rattle.std.specs.List.{AllByRecursion as All}
+use Rattle.std.specs.List.{AllByRecursion}
 use Rattle.model.specs.Meaning.{State}
 use Rattle.sheet.specs.Sheets.{Stands}
 use Rattle.sheet.specs.Wrongs.{Wrong}
@@ -8,7 +8,7 @@ use Rattle.sheet.specs.declared.faults.SheetFault.{SheetFault}
 
 -- A list of numbers that are bytes.
 abbrev pub Bytes : List ℕ → Type 0
-Bytes bytes = All (λ x. x < 256) bytes
+Bytes bytes = AllByRecursion (λ x. x < 256) bytes
 
 -- A sheet stands for one model and one list of prices.
 abbrev pub SheetStandsForOne : Type 0

@@ -1,6 +1,6 @@
 -- A table model bars nothing.
 use Rattle.std.proofs.Common.{◌≡◌, ℕ, true, List, [], ◌∷◌, map, refl}
-use Rattle.std.specs.List.{AllByRecursion as All}
+use Rattle.std.specs.List.{AllByRecursion}
 use Rattle.std.proofs.ByRecursion.{All-get_or}
 use Rattle.model.specs.Meaning.{Action, Barred, State, Open, is_free, actions, state_at, action_at}
 use Rattle.model.specs.Reading.{HasAction}
@@ -14,9 +14,9 @@ IsFree : Action → Type 0
 IsFree x = is_free x ≡ true
 
 AllFree : State → Type 0
-AllFree x = All IsFree (actions x)
+AllFree x = AllByRecursion IsFree (actions x)
 
-actions_free : (outs : List ℕ) (rows : List ActionRow) → All IsFree (map (table_action outs) rows)
+actions_free : (outs : List ℕ) (rows : List ActionRow) → AllByRecursion IsFree (map (table_action outs) rows)
 unfolding IsFree
 actions_free outs [] = tt
 actions_free outs (r ∷ rows) = (refl, actions_free outs rows)
@@ -26,7 +26,7 @@ unfolding AllFree
 state_free acts outs (row.End cost) = tt
 state_free acts outs (row.Open span) = actions_free outs (part acts span)
 
-states_free : (acts : List ActionRow) (outs : List ℕ) (rows : List StateRow) → All AllFree (map (table_state acts outs) rows)
+states_free : (acts : List ActionRow) (outs : List ℕ) (rows : List StateRow) → AllByRecursion AllFree (map (table_state acts outs) rows)
 states_free acts outs [] = tt
 states_free acts outs (r ∷ rows) = (state_free acts outs r, states_free acts outs rows)
 

@@ -1,6 +1,6 @@
 // What is to be done at a state.
 ghost use Rattle.std.specs.Prelude.{◌≡◌, true, false, MatchOption};
-ghost use Rattle.std.specs.List.{ContainsAt as Has, AllByRecursion as All};
+ghost use Rattle.std.specs.List.{ContainsAt as Has, AllByRecursion};
 ghost use Rattle.cost.specs.Prices.{figures};
 ghost use Rattle.model.specs.Meaning.{action_at, outcomes};
 ghost use Rattle.book.specs.Looks.{Followed, Seen};
@@ -68,7 +68,7 @@ impl Book {
 
     // The first outcome of an action that is not planned.
     fn first_unplanned<M: Model>(&self, model: &M, state: usize, action: usize) -> Option<usize>
-        ensures { MatchOption result (All (λ o. planned_at (page self.now) o ≡ true) (outcomes (action_at (M.Model.meaning model.now) state action))) (λ o. Has (outcomes (action_at (M.Model.meaning model.now) state action)) o × (planned_at (page self.now) o ≡ false)) }
+        ensures { MatchOption result (AllByRecursion (λ o. planned_at (page self.now) o ≡ true) (outcomes (action_at (M.Model.meaning model.now) state action))) (λ o. Has (outcomes (action_at (M.Model.meaning model.now) state action)) o × (planned_at (page self.now) o ≡ false)) }
     {
         for place in 0..model.outcomes(state, action) {
             let outcome = model.outcome(state, action, place);

@@ -1,5 +1,5 @@
 use Rattle.std.proofs.Common.{◌≡◌, ◌<◌, ◌≤◌, true, length, sym, ap, ◌∙◌, subst, arith}
-use Rattle.std.specs.List.{ContainsAt as Has, AllByRecursion as All}
+use Rattle.std.specs.List.{ContainsAt as Has, AllByRecursion}
 use Rattle.std.proofs.ByRecursion.{All-more, has_get_or}
 use Rattle.std.proofs.lemmas.List.{take_all}
 use Rattle.model.specs.Meaning.{action_at, outcomes}
@@ -24,4 +24,4 @@ pub returns : goal.returns
 returns g c =
     let os = outcomes (action_at (g.M.Model.meaning c.args.model.now) c.args.state c.args.action) in
     let all : length os ≤ c.loop-place.place = omega arith in
-    subst (All (λ o. planned_at (page c.args.self.now) o ≡ true)) (take_all c.loop-place.place os all) c.loop-place.invariant
+    subst (AllByRecursion (λ o. planned_at (page c.args.self.now) o ≡ true)) (take_all c.loop-place.place os all) c.loop-place.invariant
