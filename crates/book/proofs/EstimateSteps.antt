@@ -10,17 +10,17 @@ use Rattle.book.specs.declared.faults.EstimateFault.TheVariants.{Length, Estimat
 
 module _ (m : List State) (value : List ℕ → ℕ) (prices es : List ℕ) where
   -- What is wrong with the estimate of a state.
-  abbrev pub each-fault : ℕ → Option EstimateFault
-  each-fault s = when (not (estimate_right m value prices es s (state_at m s))) (Estimate s)
+  abbrev pub each_fault : ℕ → Option EstimateFault
+  each_fault s = when (not (estimate_right m value prices es s (state_at m s))) (Estimate s)
 
-  pub each_right : (s : ℕ) (right : Bool) → right ≡ estimate_right m value prices es s (state_at m s) → right ≡ true → each-fault s ≡ None
+  pub each_right : (s : ℕ) (right : Bool) → right ≡ estimate_right m value prices es s (state_at m s) → right ≡ true → each_fault s ≡ None
   each_right s right is e = when_false (not (estimate_right m value prices es s (state_at m s))) (Estimate s) (ap not (sym is ∙ e))
 
-  pub each_wrong : (s : ℕ) (right : Bool) → right ≡ estimate_right m value prices es s (state_at m s) → right ≡ false → each-fault s ≡ Some (Estimate s)
+  pub each_wrong : (s : ℕ) (right : Bool) → right ≡ estimate_right m value prices es s (state_at m s) → right ≡ false → each_fault s ≡ Some (Estimate s)
   each_wrong s right is e = when_true (not (estimate_right m value prices es s (state_at m s))) (Estimate s) (ap not (sym is ∙ e))
 
 -- Where there are as many estimates as states, the first fault is that of an estimate.
-pub as_many : (m : List State) (value : List ℕ → ℕ) (prices es : List ℕ) → eqb (length es) 0 ≡ false → length es ≡ length m → estimate_fault m value prices es ≡ first_below (each-fault m value prices es) (length m)
+pub as_many : (m : List State) (value : List ℕ → ℕ) (prices es : List ℕ) → eqb (length es) 0 ≡ false → length es ≡ length m → estimate_fault m value prices es ≡ first_below (each_fault m value prices es) (length m)
 as_many m value prices [] some many = let z : ◌≡◌ {A = ℕ} 0 1 = ap (λ b. cond b 0 1) some in absurd (omega arith)
 as_many m value prices (e ∷ es) some many =
     first_of_right (when (not (eqb (length (e ∷ es)) (length m))) (Length (length (e ∷ es)))) _

@@ -17,7 +17,7 @@ use Rattle.book.specs.Estimates.{estimate_bounds, estimate_right, estimate_fault
 use Rattle.book.specs.Openings.{first_by, entries_of, ends_planned, opening_bound, opened_page, unmarked_page, emptied_page}
 use Rattle.book.specs.Pages.{Page, bound_at, Sound}
 use Rattle.book.specs.declared.faults.EstimateFault.TheVariants.{Length, Estimate}
-use Rattle.book.proofs.EstimateSteps.{each-fault}
+use Rattle.book.proofs.EstimateSteps.{each_fault}
 use Rattle.book.proofs.Soundness.{map_alike}
 use Rattle.book.proofs.Wholes.{few_states}
 
@@ -49,7 +49,7 @@ unless_true : {F : Type 0} (b : Bool) (f : F) → when (not b) f ≡ None → b 
 unless_true true f e = refl
 unless_true false f e = never (cc)
 
-none_right : (m : List State) (value : List ℕ → ℕ) (prices es : List ℕ) (s : ℕ) → each-fault m value prices es s ≡ None → estimate_right m value prices es s (state_at m s) ≡ true
+none_right : (m : List State) (value : List ℕ → ℕ) (prices es : List ℕ) (s : ℕ) → each_fault m value prices es s ≡ None → estimate_right m value prices es s (state_at m s) ≡ true
 none_right m value prices es s none = unless_true (estimate_right m value prices es s (state_at m s)) (Estimate s) none
 
 -- Where there are estimates, they are the bounds at opening.
@@ -105,12 +105,12 @@ module _ (m : List State) (opens : Opens m) where
         let is : opening_bound m es s ≡ min roof 0 = ap (λ l. opening_bound m l s) none ∙ ap (λ y. min roof (end_cost y)) e in
         omega (arith, bound_is s there)
 
-    module _ (some : eqb (length es) 0 ≡ false) (many : length es ≡ length m) (none : first_below (each-fault m value prices es) (length m) ≡ None) where
+    module _ (some : eqb (length es) 0 ≡ false) (many : length es ≡ length m) (none : first_below (each_fault m value prices es) (length m) ≡ None) where
       estimated : (s : ℕ) → opening_bound m es s ≡ min roof (get_or es s 0)
       estimated s = from_some m es s some
 
       right : (s : ℕ) → s < length m → estimate_right m value prices es s (state_at m s) ≡ true
-      right s there = none_right m value prices es s (none_below (each-fault m value prices es) (length m) s none there)
+      right s there = none_right m value prices es s (none_below (each_fault m value prices es) (length m) s none there)
 
       alike : (s : ℕ) → s < length m → estimate_bounds es s ≡ v s
       alike s there =
@@ -133,7 +133,7 @@ module _ (m : List State) (opens : Opens m) where
         let some : eqb (length es) 0 ≡ false = ap (λ l. eqb (length l) 0) same ∙ ne_eqb (length (x ∷ xs)) 0 (λ e. omega arith) in
         let parts = neither (when (not (eqb (length (x ∷ xs)) (length m))) (Length (length (x ∷ xs)))) _ none in
         let many : length es ≡ length m = ap length same ∙ eqb-true (length (x ∷ xs)) (length m) (unless_true (eqb (length (x ∷ xs)) (length m)) (Length (length (x ∷ xs))) parts.0) in
-        estimated_lawful some many (subst (λ l. first_below (each-fault m value prices l) (length m) ≡ None) (sym same) parts.1) s (state_at m s) there refl
+        estimated_lawful some many (subst (λ l. first_below (each_fault m value prices l) (length m) ≡ None) (sym same) parts.1) s (state_at m s) there refl
 
   -- A book that was opened with estimates of which nothing is wrong is sound.
   pub opened_sound : (value : List ℕ → ℕ) (prices es : List ℕ) (p : Page) → estimate_fault m value prices es ≡ None → Sound m value prices (opened_page m es p)

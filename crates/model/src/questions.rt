@@ -1,7 +1,7 @@
 // The questions that every model answers.
 ghost use Rattle.std.specs.Prelude.{◌≡◌, List, length};
 ghost use Rattle.model.specs.Meaning.{State, is_end, end_cost, actions, is_free, outcomes, state_at, action_at, outcome_at};
-ghost use Rattle.model.specs.Meaning.{task as task-of};
+ghost use Rattle.model.specs.Meaning.{task as task_of};
 
 // A planning model. Every answer comes from its meaning; about what is not there the answer is 0
 // or no. Asking changes nothing and never refuses.
@@ -31,7 +31,7 @@ pub trait Model {
 
     // The task of a free action.
     fn task(&self, state: usize, action: usize) -> u8
-        ensures { result ≡ task-of (action_at (meaning self.now) state action) };
+        ensures { result ≡ task_of (action_at (meaning self.now) state action) };
 
     // How many outcomes a free action has.
     fn outcomes(&self, state: usize, action: usize) -> usize

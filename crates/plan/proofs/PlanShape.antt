@@ -38,8 +38,8 @@ module _ (m : List State) (p : Plan) where
     child s c x (at_end e) (t, os, takes, has) = end_takes s c t os e takes
     child s c x (at_open {t = t} {os = os} cs takes long kids e) (t', os', takes', has) =
         let same = (takes_once s t t' os os' takes takes').1 in
-        let in-os = subst (λ l. Has l x) (sym same) has in
-        (get_or cs in-os.0 0, subst (λ u. Costs m value prices p u (get_or cs in-os.0 0)) (in-os.2 0) (kids in-os.0 in-os.1))
+        let in_os = subst (λ l. Has l x) (sym same) has in
+        (get_or cs in_os.0 0, subst (λ u. Costs m value prices p u (get_or cs in_os.0 0)) (in_os.2 0) (kids in_os.0 in_os.1))
 
     pub along : (s c u : ℕ) → Costs m value prices p s c → Path m p s u → (d : ℕ) × Costs m value prices p u d
     along s c u k here = (c, k)
@@ -49,12 +49,12 @@ module _ (m : List State) (p : Plan) where
     no_return s c x (at_end e) (t, os, takes, has) r = end_takes s c t os e takes
     no_return s c x (at_open {t = t} {os = os} cs takes long kids e) (t', os', takes', has) r =
         let same = (takes_once s t t' os os' takes takes').1 in
-        let in-os = subst (λ l. Has l x) (sym same) has in
-        let k = in-os.0 in
-        let is = in-os.2 0 in
+        let in_os = subst (λ l. Has l x) (sym same) has in
+        let k = in_os.0 in
+        let is = in_os.2 0 in
         let u = get_or os k 0 in
-        let back = turned s u (t, os, takes, (k, in-os.1, λ d. in-os.2 d ∙ sym is)) (subst (λ z. Path m p z s) (sym is) r) in
-        no_return u (get_or cs k 0) back.0 (kids k in-os.1) back.1 back.2
+        let back = turned s u (t, os, takes, (k, in_os.1, λ d. in_os.2 d ∙ sym is)) (subst (λ z. Path m p z s) (sym is) r) in
+        no_return u (get_or cs k 0) back.0 (kids k in_os.1) back.1 back.2
 
     decided : (u d : ℕ) → Costs m value prices p u d → (is_end (state_at m u) ≡ true) ⊎ ((t : ℕ) × (os : List ℕ) × Takes m p u t os)
     decided u d (at_end e) = inl (ap is_end e)

@@ -22,14 +22,14 @@ use Rattle.reader.proofs.Layouts.{Unbarred, state_rows, action_rows, length_stat
 
 -- The first table that is too short, by what is known of each.
 module _ (needed room : Size) where
-  abbrev later-short : Option ℕ
-  later-short = first_of (when (ltb room.actions needed.actions) 1) (when (ltb room.outcomes needed.outcomes) 2)
+  abbrev later_short : Option ℕ
+  later_short = first_of (when (ltb room.actions needed.actions) 1) (when (ltb room.outcomes needed.outcomes) 2)
 
-  states_enough : needed.states ≤ room.states → first_short needed room ≡ later-short
-  states_enough s = ap (λ x. first_of (when x 0) later-short) (le-ltb room.states needed.states s)
+  states_enough : needed.states ≤ room.states → first_short needed room ≡ later_short
+  states_enough s = ap (λ x. first_of (when x 0) later_short) (le-ltb room.states needed.states s)
 
   pub short_states : room.states < needed.states → first_short needed room ≡ Some 0
-  short_states h = ap (λ x. first_of (when x 0) later-short) (lt-ltb room.states needed.states h)
+  short_states h = ap (λ x. first_of (when x 0) later_short) (lt-ltb room.states needed.states h)
 
   pub short_actions : needed.states ≤ room.states → room.actions < needed.actions → first_short needed room ≡ Some 1
   short_actions s h =

@@ -59,7 +59,7 @@ module _ (bytes : List ℕ) (small : AllByRecursion (λ x. x < 256) bytes) (few 
   -- Where no whole field is there and more is due, the bytes end too soon.
   pub ended : (rest : List ℕ) → bytes ≡ blocks_bytes fs ++ rest → NoField rest → (rest ≡ [] → all_read (after_all beginning fs) ≡ false) → Wrong bytes (fault.Ends (length (blocks_bytes fs)))
   ended rest split none due =
-      let no-sheet : (m : List State) (ps : List ℕ) → Stands bytes m ps → ⊥ = λ m ps s.
+      let no_sheet : (m : List State) (ps : List ℕ) → Stands bytes m ps → ⊥ = λ m ps s.
       (let front = blocks_front fs (fields m ps) rest (sym s.same ∙ split) in
       let whole = writable_right m ps s.writable in
       let case : (hs : List Block) → fields m ps ≡ fs ++ hs → rest ≡ blocks_bytes hs → ⊥ = λ hs. elim hs as (λ gs. fields m ps ≡ fs ++ gs → rest ≡ blocks_bytes gs → ⊥) [
@@ -72,7 +72,7 @@ module _ (bytes : List ℕ) (small : AllByRecursion (λ x. x < 256) bytes) (few 
         | h ∷ gs ↦ λ same more. none h (blocks_bytes gs) more
       ] in
       case front.0 front.1.0 front.1.1) in
-      inr (few, (fs, (rest, (reached rest split, none, no-sheet))))
+      inr (few, (fs, (rest, (reached rest split, none, no_sheet))))
 
 -- The place of what is left of some bytes.
 pub place_left : (bytes front rest : List ℕ) → bytes ≡ front ++ rest → length bytes - length rest ≡ length front

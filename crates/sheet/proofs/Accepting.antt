@@ -31,12 +31,12 @@ follows_more : (d : Stage) (c e : Content) (f : Block) → Follows d c → cause
 follows_more d c e f h none same = subst (Follows (after d f)) same (grow_follows d c f h none)
 
 -- The actions of a state that has room for them.
-reads-actions :
+reads_actions :
     (n : ℕ) (ps : List ℕ) (done : List State) (bs as' : List Action) (d : Stage) → Follows d (content n ps done (Open as' ∷ [])) → AllByRecursion (ActionRight n) bs → d.room + length as' ≡ 16 → length as' + length bs ≤ 16 →
     Reads d (content n ps done (Open as' ∷ [])) (flat_map action_fields bs) (content n ps done (Open (as' ++ bs) ∷ []))
-reads-actions n ps done [] as' d f right fits few = (tt, ap (λ l. content n ps done (Open l ∷ [])) (sym (append-nil as')))
-reads-actions n ps done (Barred ∷ bs) as' d f right fits few = absurd right.0
-reads-actions n ps done (Free t os ∷ bs) as' d f right fits few =
+reads_actions n ps done [] as' d f right fits few = (tt, ap (λ l. content n ps done (Open l ∷ [])) (sym (append-nil as')))
+reads_actions n ps done (Barred ∷ bs) as' d f right fits few = absurd right.0
+reads_actions n ps done (Free t os ∷ bs) as' d f right fits few =
     let a = Free t os in
     let h = right.0 in
     let c = content n ps done (Open as' ∷ []) in
@@ -48,7 +48,7 @@ reads-actions n ps done (Free t os ∷ bs) as' d f right fits few =
     kind_right d b (action_kind (omega arith) (omega arith) (omega (arith, h.1)) (omega (arith, h.2)) h.0 up) in
     let same : grow c (block 5 b) ≡ e = ap (λ l. content n ps done (Open (as' ++ Free t l ∷ []) ∷ [])) (pairs_joined os) in
     let one_more = length_push as' a in
-    let rest = reads-actions n ps done bs (as' ++ a ∷ []) (after d (block 5 b)) (follows_more d c e (block 5 b) f none same) right.1 (omega arith) (omega arith) in
+    let rest = reads_actions n ps done bs (as' ++ a ∷ []) (after d (block 5 b)) (follows_more d c e (block 5 b) f none same) right.1 (omega arith) (omega arith) in
     let more = reads_more d c e (block 5 b) (flat_map action_fields bs) (content n ps done (Open ((as' ++ a ∷ []) ++ bs) ∷ [])) none same rest in
     (more.0, more.1 ∙ ap (λ l. content n ps done (Open l ∷ [])) (append_assoc as' (a ∷ []) bs))
 
@@ -64,31 +64,31 @@ states_after d c e fs gs m r counts prices s =
       (ap (λ x. x.count) same ∙ s.1.0 ∙ counts, ap (λ x. x.prices) same ∙ s.1.1 ∙ prices, ap states_of same ∙ s.1.2),
     )
 
-reads-states :
+reads_states :
     (n : ℕ) (ps : List ℕ) (xs : List State) (done latest : List State) (d : Stage) → Follows d (content n ps done latest) → AllByRecursion (StateRight n) xs → length (done ++ latest) + length xs ≤ n →
     ReadsStates d (content n ps done latest) (flat_map state_fields xs) ((done ++ latest) ++ xs)
-reads-states n ps [] done latest d f right few = (tt, (refl, refl, sym (append-nil (done ++ latest))))
-reads-states n ps (End k ∷ xs) done latest d f right few =
+reads_states n ps [] done latest d f right few = (tt, (refl, refl, sym (append-nil (done ++ latest))))
+reads_states n ps (End k ∷ xs) done latest d f right few =
     let c = content n ps done latest in
     let e = content n ps (done ++ latest) (End k ∷ []) in
     let b : List ℕ = four k in
     let small : end_cost_in b ≤ 1000000 = omega (arith, end_cost_in_four k, right.0) in
     let none : cause_of d (block 3 b) ≡ None = kind_right d b (end_kind (omega (arith, f.states_is, f.count_is)) refl small) in
     let same : grow c (block 3 b) ≡ e = ap (λ x. content n ps (done ++ latest) (End x ∷ [])) (end_cost_in_four k) in
-    let rest = reads-states n ps xs (done ++ latest) (End k ∷ []) (after d (block 3 b)) (follows_more d c e (block 3 b) f none same) right.1 (omega (arith, length_push (done ++ latest) (End k))) in
+    let rest = reads_states n ps xs (done ++ latest) (End k ∷ []) (after d (block 3 b)) (follows_more d c e (block 3 b) f none same) right.1 (omega (arith, length_push (done ++ latest) (End k))) in
     subst (ReadsStates d c (flat_map state_fields (End k ∷ xs))) (append_assoc (done ++ latest) (End k ∷ []) xs)
     (states_after d c e (block 3 b ∷ []) (flat_map state_fields xs) (((done ++ latest) ++ End k ∷ []) ++ xs) ((none, tt), same) refl refl rest)
-reads-states n ps (Open bs ∷ xs) done latest d f right few =
+reads_states n ps (Open bs ∷ xs) done latest d f right few =
     let c = content n ps done latest in
     let o = content n ps (done ++ latest) (Open [] ∷ []) in
     let e = content n ps (done ++ latest) (Open bs ∷ []) in
     let none : cause_of d (block 4 []) ≡ None = kind_right d [] (open_kind (omega (arith, f.states_is, f.count_is)) refl) in
     let opened : Follows (after d (block 4 [])) o = follows_more d c o (block 4 []) f none refl in
-    let inner = reads-actions n ps (done ++ latest) bs [] (after d (block 4 [])) opened right.0.1 refl (omega (arith, right.0.0)) in
+    let inner = reads_actions n ps (done ++ latest) bs [] (after d (block 4 [])) opened right.0.1 refl (omega (arith, right.0.0)) in
     let whole : Reads d c (block 4 [] ∷ flat_map action_fields bs) e = reads_more d c o (block 4 []) (flat_map action_fields bs) e none refl inner in
     let d' = after_all d (block 4 [] ∷ flat_map action_fields bs) in
     let f' : Follows d' e = subst (Follows d') whole.1 (follows_all d c (block 4 [] ∷ flat_map action_fields bs) f whole.0) in
-    let rest = reads-states n ps xs (done ++ latest) (Open bs ∷ []) d' f' right.1 (omega (arith, length_push (done ++ latest) (Open bs))) in
+    let rest = reads_states n ps xs (done ++ latest) (Open bs ∷ []) d' f' right.1 (omega (arith, length_push (done ++ latest) (Open bs))) in
     subst (ReadsStates d c (flat_map state_fields (Open bs ∷ xs))) (append_assoc (done ++ latest) (Open bs ∷ []) xs)
     (states_after d c e (block 4 [] ∷ flat_map action_fields bs) (flat_map state_fields xs) (((done ++ latest) ++ Open bs ∷ []) ++ xs) whole refl refl rest)
 
@@ -131,13 +131,13 @@ prices_more :
     ReadsPrices n d qs (f ∷ fs) t ps
 prices_more n d qs us f fs t ps none same r = ((none, r.0), (r.1.0, (ap (λ x. grow_all x fs) same ∙ r.1.1.0, r.1.1.1, r.1.1.2)))
 
-reads-prices :
+reads_prices :
     (n : ℕ) (rs : List ℕ) (t : ℕ) (qs : List ℕ) (d : Stage) → Follows d (content n qs [] []) → 0 < n → length qs ≤ t → t + length rs ≤ 64 → AllByRecursion (λ p. (1 ≤ p) × (p ≤ 10000)) rs →
     ReadsPrices n d qs (price_fields t rs) (t + length rs) ((qs ++ replicate (t - length qs) 1) ++ rs)
-reads-prices n [] t qs d f some before few right =
+reads_prices n [] t qs d f some before few right =
     let same : t + 0 - length qs ≡ t - length qs = omega arith in
     (tt, (qs, (refl, omega arith, ap (λ k. qs ++ replicate k 1) same ∙ sym (append-nil (qs ++ replicate (t - length qs) 1)))))
-reads-prices n (p ∷ rs) t qs d f some before few right =
+reads_prices n (p ∷ rs) t qs d f some before few right =
     let next : suc t + length rs ≡ t + suc (length rs) = omega arith in
     let said = (qs ++ replicate (t - length qs) 1) ++ p ∷ rs in
     ⊎_elim
@@ -145,7 +145,7 @@ reads-prices n (p ∷ rs) t qs d f some before few right =
     let prices = skipped t qs rs before ∙ ap (λ x. (qs ++ replicate (t - length qs) 1) ++ x ∷ rs) (sym one) in
     subst (λ x. ReadsPrices n d qs (price_field t x ++ price_fields (suc t) rs) (t + suc (length rs)) said) (sym one)
     (prices_same n d qs (price_fields (suc t) rs) (suc t + length rs) (t + suc (length rs)) ((qs ++ replicate (suc t - length qs) 1) ++ rs) said next prices
-    (reads-prices n rs (suc t) qs d f some (omega arith) (omega arith) right.1)))
+    (reads_prices n rs (suc t) qs d f some (omega arith) (omega arith) right.1)))
     (λ other.
     let more : 2 ≤ p = omega (arith, right.0.0, other) in
     let b : List ℕ = t ∷ two p in
@@ -159,7 +159,7 @@ reads-prices n (p ∷ rs) t qs d f some before few right =
     subst (λ l. ReadsPrices n d qs (l ++ price_fields (suc t) rs) (t + suc (length rs)) said) (sym (price_field_is t p more))
     (prices_more n d qs us (block 2 b) (price_fields (suc t) rs) (t + suc (length rs)) said none same
     (prices_same n d' us (price_fields (suc t) rs) (suc t + length rs) (t + suc (length rs)) ((us ++ replicate (suc t - length us) 1) ++ rs) said next (named t p qs rs before)
-    (reads-prices n rs (suc t) us d' f' some (omega (arith, length_with_price t p qs before)) (omega arith) right.1))))
+    (reads_prices n rs (suc t) us d' f' some (omega (arith, length_with_price t p qs before)) (omega arith) right.1))))
     (cases_eq p 1)
 
 module _ (m : List State) (ps : List ℕ) (w : Writable m ps) where
@@ -175,14 +175,14 @@ module _ (m : List State) (ps : List ℕ) (w : Writable m ps) where
       let d₁ = after beginning (block 1 b) in
       let f₁ : Follows d₁ c₁ = follows_more beginning nothing c₁ (block 1 b) nothing_follows none same in
       let all : length ps ≡ 64 = w.prices.0 in
-      let p = reads-prices n ps 0 [] d₁ f₁ (omega (arith, limits.0)) (omega arith) (omega arith) w.prices.1 in
+      let p = reads_prices n ps 0 [] d₁ f₁ (omega (arith, limits.0)) (omega arith) (omega arith) w.prices.1 in
       let us = p.1.0 in
       let c₂ = content n us [] [] in
       let pf = price_fields 0 ps in
       let sf = flat_map state_fields m in
       let d₂ = after_all d₁ pf in
       let f₂ : Follows d₂ c₂ = subst (Follows d₂) p.1.1.0 (follows_all d₁ c₁ pf f₁ p.0) in
-      let s = reads-states n us m [] [] d₂ f₂ limits.2 (omega arith) in
+      let s = reads_states n us m [] [] d₂ f₂ limits.2 (omega arith) in
       let right : Right beginning (fields m ps) = (none, right_append d₁ pf sf p.0 s.0) in
       let last : grow_all nothing (fields m ps) ≡ grow_all c₂ sf =
       ap (λ x. grow_all x (pf ++ sf)) same ∙ grow_all_append c₁ pf sf ∙ ap (λ x. grow_all x sf) p.1.1.0 in

@@ -96,7 +96,7 @@ bad_stop bytes p fs g more c reached wrong =
 
 wrong_stop : (bytes : List ℕ) → Bytes bytes → length bytes ≤ 65536 → (f : SheetFault) → Wrong bytes f → Stop bytes f
 wrong_stop bytes small few (fault.Ends p) (inl big) = absurd (omega arith)
-wrong_stop bytes small few (fault.Ends p) (inr (le, (fs, (rest, (reached, none, no-sheet))))) =
+wrong_stop bytes small few (fault.Ends p) (inr (le, (fs, (rest, (reached, none, no_sheet))))) =
     record {
       blocks = fs;
       rest = rest;
@@ -178,7 +178,7 @@ not_wrong fs f c begins wrong =
 
 pub sheet_has_no_fault_lem : SheetHasNoFault
 sheet_has_no_fault_lem bytes (fault.Ends p) m ps (inl h) stands = omega (arith, stands.few)
-sheet_has_no_fault_lem bytes (fault.Ends p) m ps (inr (le, (fs, (rest, (reached, none, no-sheet))))) stands = no-sheet m ps stands
+sheet_has_no_fault_lem bytes (fault.Ends p) m ps (inr (le, (fs, (rest, (reached, none, no_sheet))))) stands = no_sheet m ps stands
 sheet_has_no_fault_lem bytes (fault.Tag p) m ps (le, (fs, (block t b, (rest, (reached, what))))) stands =
     not_wrong fs (block t b) Tag (field_there bytes p fs (block t b) rest m ps stands reached)
     (by_tag (tag_due (after_all beginning fs) t) (length_right t (length b)) (value_right (after_all beginning fs) t b) what)

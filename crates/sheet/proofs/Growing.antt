@@ -85,22 +85,22 @@ module _ (d : Stage) (c : Content) (b : List ℕ) (f : Follows d c) where
         states_right = All-push (StateRight c.count) s x f.states_right right;
       }
 
-  grow-action :
+  grow_action :
       (as' : List Action) → c.latest ≡ Open as' ∷ [] → d.room + length as' ≡ 16 → 0 < d.room → length b % 2 ≡ 1 → 3 ≤ length b → length b ≤ 33 → get_or b 0 0 ≤ 63 → rising d.count 0 (outcomes_in b) ≡ true →
       Follows (after d (block 5 b)) (grow c (block 5 b))
-  grow-action as' last fits h1 h2 h3 h4 h5 h6 =
+  grow_action as' last fits h1 h2 h3 h4 h5 h6 =
       let n = c.count in
       let a = Free (get_or b 0 0) (outcomes_in b) in
       let done = c.done in
       let places : length (outcomes_in b) ≡ places_in b = length_pairs (drop 1 b) ∙ ap (λ k. k / 2) (length-drop 1 b) in
       let old : states_of c ≡ done ++ Open as' ∷ [] = ap (λ l. done ++ l) last in
       let new : done ++ map (with_action a) c.latest ≡ done ++ Open (as' ++ a ∷ []) ∷ [] = ap (λ l. done ++ map (with_action a) l) last in
-      let count-old : length (states_of c) ≡ length done + 1 = ap length old ∙ length_push done (Open as') in
-      let count-new : length (done ++ map (with_action a) c.latest) ≡ length done + 1 = ap length new ∙ length_push done (Open (as' ++ a ∷ [])) in
-      let actions-old = ap (λ l. length (flat_map actions l)) old ∙ actions_more done (Open as') in
-      let actions-new = ap (λ l. length (flat_map actions l)) new ∙ actions_more done (Open (as' ++ a ∷ [])) in
-      let outcomes-old = ap (λ l. length (flat_map outcomes (flat_map actions l))) old ∙ outcomes_more done (Open as') in
-      let outcomes-new = ap (λ l. length (flat_map outcomes (flat_map actions l))) new ∙ outcomes_more done (Open (as' ++ a ∷ [])) in
+      let count_old : length (states_of c) ≡ length done + 1 = ap length old ∙ length_push done (Open as') in
+      let count_new : length (done ++ map (with_action a) c.latest) ≡ length done + 1 = ap length new ∙ length_push done (Open (as' ++ a ∷ [])) in
+      let actions_old = ap (λ l. length (flat_map actions l)) old ∙ actions_more done (Open as') in
+      let actions_new = ap (λ l. length (flat_map actions l)) new ∙ actions_more done (Open (as' ++ a ∷ [])) in
+      let outcomes_old = ap (λ l. length (flat_map outcomes (flat_map actions l))) old ∙ outcomes_more done (Open as') in
+      let outcomes_new = ap (λ l. length (flat_map outcomes (flat_map actions l))) new ∙ outcomes_more done (Open (as' ++ a ∷ [])) in
       let one_more = length_push as' a in
       let places_more : length (flat_map outcomes (as' ++ a ∷ [])) ≡ length (flat_map outcomes as') + length (outcomes_in b) = ap length (joined_push outcomes as' a) ∙ length-append (flat_map outcomes as') (outcomes_in b) in
       let parts = all_parts (StateRight n) done (Open as' ∷ []) (subst (AllByRecursion (StateRight n)) old f.states_right) in
@@ -109,12 +109,12 @@ module _ (d : Stage) (c : Content) (b : List ℕ) (f : Follows d c) where
       record {
         count_is = f.count_is;
         task_is = f.task_is;
-        states_is = f.states_is ∙ count-old ∙ sym count-new;
+        states_is = f.states_is ∙ count_old ∙ sym count_new;
         room_is = inr (as' ++ a ∷ [], (ap (map (with_action a)) last, omega arith));
-        actions_is = omega (arith, f.actions_is, actions-old, actions-new, one_more);
-        outcomes_is = omega (arith, f.outcomes_is, outcomes-old, outcomes-new, places_more, places);
+        actions_is = omega (arith, f.actions_is, actions_old, actions_new, one_more);
+        outcomes_is = omega (arith, f.outcomes_is, outcomes_old, outcomes_new, places_more, places);
         count_few = f.count_few;
-        states_few = omega (arith, count-old, count-new, f.states_few);
+        states_few = omega (arith, count_old, count_new, f.states_few);
         tasks_few = f.tasks_few;
         unread = f.unread;
         prices_right = f.prices_right;
@@ -127,7 +127,7 @@ module _ (d : Stage) (c : Content) (b : List ℕ) (f : Follows d c) where
   grow_kind (end_kind h1 h2 h3) = grow_state (End (end_cost_in b)) 0 h1 refl h3 (inl refl)
   grow_kind (open_kind h1 h2) = grow_state (Open []) 16 h1 refl (omega arith, tt) (inr ([], (refl, refl)))
   grow_kind (action_kind h1 h2 h3 h4 h5 h6) =
-      ⊎_elim (λ none. absurd (omega arith)) (λ r. grow-action r.0 r.1.0 r.1.1 h1 h2 h3 h4 h5 h6) f.room_is
+      ⊎_elim (λ none. absurd (omega arith)) (λ r. grow_action r.0 r.1.0 r.1.1 h1 h2 h3 h4 h5 h6) f.room_is
 
 -- One field more of which nothing is wrong.
 pub grow_follows : (d : Stage) (c : Content) (f : Block) → Follows d c → cause_of d f ≡ None → Follows (after d f) (grow c f)

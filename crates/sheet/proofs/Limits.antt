@@ -33,16 +33,16 @@ module _ (n : ℕ) where
   rising_steps low (o ∷ (u ∷ os)) zero e h = (rising_parts (suc o) u os (rising_parts low o (u ∷ os) e).2).0
   rising_steps low (o ∷ (u ∷ os)) (suc k) e h = rising_steps (suc o) (u ∷ os) k (rising_parts low o (u ∷ os) e).2 (omega arith)
 
-  rising-from :
+  rising_from :
       (low : ℕ) (os : List ℕ) → (1 ≤ length os → low ≤ get_or os 0 0) → ((k : ℕ) → k < length os → get_or os k 0 < n) → ((k : ℕ) → suc k < length os → get_or os k 0 < get_or os (suc k) 0) →
       rising n low os ≡ true
-  rising-from low [] first below steps = refl
-  rising-from low (o ∷ os) first below steps =
+  rising_from low [] first below steps = refl
+  rising_from low (o ∷ os) first below steps =
       let least : low ≤ o = first (omega arith) in
       let less : o < n = below 0 (omega arith) in
       and_from (leb low o) (ltb o n && rising n (suc o) os) (le-leb low o least)
       (and_from (ltb o n) (rising n (suc o) os) (lt-ltb o n less)
-      (rising-from (suc o) os (λ h. steps 0 (omega arith)) (λ k h. below (suc k) (omega arith)) (λ k h. steps (suc k) (omega arith))))
+      (rising_from (suc o) os (λ h. steps 0 (omega arith)) (λ k h. below (suc k) (omega arith)) (λ k h. steps (suc k) (omega arith))))
 
 -- The limits of an action and of a state, each by what is asked of them.
 module _ (n : ℕ) where
@@ -132,7 +132,7 @@ module _ (m : List State) (ps : List ℕ) (w : Writable m ps) where
       (⊎_elim (λ l. absurd (no_fault (Task s a) (there, l))) (λ r. r) (cases_lt 63 (task x)))
       (⊎_elim (λ l. absurd (no_fault (Outcomes s a) (there, free, inl l))) (λ r. r) (cases_lt (length (outcomes x)) 1))
       (⊎_elim (λ l. absurd (no_fault (Outcomes s a) (there, free, inr l))) (λ r. r) (cases_lt 16 (length (outcomes x))))
-      (rising-from n 0 (outcomes x) (λ h. omega arith)
+      (rising_from n 0 (outcomes x) (λ h. omega arith)
       (λ k h. ⊎_elim (λ l. l) (λ r. absurd (no_fault (Outcome s a k) ((there, h), inl r))) (cases_lt (get_or (outcomes x) k 0) n))
       (λ k h.
       let before : suc k - 1 ≡ k = omega arith in

@@ -55,11 +55,11 @@ pub written : (c : Content) → 0 < c.count → fields_of c ≡ block 1 (two c.c
 written c h = cond-false (eqb c.count 0) [] _ (ne_eqb c.count 0 (λ e. omega arith))
 
 -- One field more is written after the others where what it adds is.
-written-more :
+written_more :
     (c e : Content) (f : Block) → 0 < c.count → e.count ≡ c.count →
     price_fields 0 e.prices ++ flat_map state_fields (states_of e) ≡ (price_fields 0 c.prices ++ flat_map state_fields (states_of c)) ++ f ∷ [] →
     fields_of e ≡ fields_of c ++ f ∷ []
-written-more c e f h same more =
+written_more c e f h same more =
     written e (omega arith)
     ∙ ap₂ (λ n r. block 1 (two n) ∷ r) same more
     ∙ sym (ap (λ l. l ++ f ∷ []) (written c h))
@@ -67,19 +67,19 @@ written-more c e f h same more =
 -- The same where the prices stay.
 states_more : (c e : Content) (f : Block) → 0 < c.count → e.count ≡ c.count → e.prices ≡ c.prices → flat_map state_fields (states_of e) ≡ flat_map state_fields (states_of c) ++ f ∷ [] → fields_of e ≡ fields_of c ++ f ∷ []
 states_more c e f h same prices more =
-    written-more c e f h same
+    written_more c e f h same
     (ap₂ (λ ps r. price_fields 0 ps ++ r) prices more ∙ sym (append_assoc (price_fields 0 c.prices) (flat_map state_fields (states_of c)) (f ∷ [])))
 
 module _ (d : Stage) (c : Content) (b : List ℕ) (f : Follows d c) (small : AllByRecursion (λ x. x < 256) b) where
   kind_fields : {t : ℕ} → Kind d b t → fields_of (grow c (block t b)) ≡ fields_of c ++ block t b ∷ []
   kind_fields (states_kind h1 h2 h3 h4) =
-      let zero-count : c.count ≡ 0 = omega (arith, f.count_is) in
+      let zero_count : c.count ≡ 0 = omega (arith, f.count_is) in
       let none : states_of c ≡ [] = nil_from_length (states_of c) (omega (arith, f.states_few)) in
-      let free : c.prices ≡ [] = f.unread zero-count in
+      let free : c.prices ≡ [] = f.unread zero_count in
       written (grow c (block 1 b)) h3
       ∙ ap₂ (λ ps ss. block 1 (two (pair_at b 0)) ∷ (price_fields 0 ps ++ flat_map state_fields ss)) free none
       ∙ ap (λ l. block 1 l ∷ []) (states_body b h2 small)
-      ∙ sym (ap (λ l. l ++ block 1 b ∷ []) (cond-true (eqb c.count 0) _ _ (eq-eqb c.count 0 zero-count)))
+      ∙ sym (ap (λ l. l ++ block 1 b ∷ []) (cond-true (eqb c.count 0) _ _ (eq-eqb c.count 0 zero_count)))
   kind_fields (price_kind h1 h2 h3 h4 h5 h6 h7) =
       let ps = c.prices in
       let k = get_or b 0 0 in
@@ -96,7 +96,7 @@ module _ (d : Stage) (c : Content) (b : List ℕ) (f : Follows d c) (small : All
       let more : price_fields 0 (ps ++ (fill ++ p ∷ [])) ≡ price_fields 0 ps ++ block 2 b ∷ [] =
       price_fields_append 0 ps (fill ++ p ∷ [])
       ∙ ap (λ r. price_fields 0 ps ++ r) (price_fields_append (0 + length ps) fill (p ∷ []) ∙ ap₂ (λ x y. x ++ y) (price_fields_ones (0 + length ps) (k - length ps)) last) in
-      written-more c (grow c (block 2 b)) (block 2 b) (omega (arith, f.count_is)) refl
+      written_more c (grow c (block 2 b)) (block 2 b) (omega (arith, f.count_is)) refl
       (ap₂ (λ x ss. x ++ flat_map state_fields ss) more none
       ∙ append-nil (price_fields 0 ps ++ block 2 b ∷ [])
       ∙ ap (λ x. x ++ block 2 b ∷ []) (sym (ap (λ ss. price_fields 0 ps ++ flat_map state_fields ss) none ∙ append-nil (price_fields 0 ps))))

@@ -91,7 +91,7 @@ written_back bytes m ps room f stands enough wrong =
 pub copied : (bytes : List ℕ) (m m' : List State) (ps : List ℕ) (n : ℕ) (old new : List ℕ) → Stands bytes m ps → m' ≡ m → Written m' ps n old new → length new ≡ length bytes → new ≡ bytes
 copied bytes m m' ps n old new stands same written long =
     let sheet : sheet_of m' ps ≡ bytes = ap (λ l. sheet_of l ps) same ∙ sym stands.same in
-    let n-is : n ≡ length bytes = written.count ∙ ap length sheet in
+    let n_is : n ≡ length bytes = written.count ∙ ap length sheet in
     sym (take_all n new (omega arith)) ∙ written.stands.same ∙ sheet
 
 -- Bytes to which a model was written begin with its sheet.

@@ -63,10 +63,10 @@ module _ (v : ValveModel) where
 
     pub single_state : ones m ≡ 1 → state_at (meaning_of v) m ≡ End (get_or (repairs_of v) (count_trailing_zeros 64 m) 0)
     single_state one =
-        let zero-first : 0 + count_trailing_zeros 64 m ≡ count_trailing_zeros 64 m = omega arith in
+        let zero_first : 0 + count_trailing_zeros 64 m ≡ count_trailing_zeros 64 m = omega arith in
         state_is
         ∙ ap (set_state (repairs_of v) (tests_of v) m) (single_candidate v.candidates 0 64 m h (omega (arith, candidates_few)) one).0
-        ∙ ap (λ c. End (get_or (repairs_of v) c 0)) zero-first
+        ∙ ap (λ c. End (get_or (repairs_of v) c 0)) zero_first
 
     -- Whether it is an end, by the number of one bits.
     pub is_end_by_ones : ltb (ones m) 2 ≡ is_end (state_at (meaning_of v) m)
