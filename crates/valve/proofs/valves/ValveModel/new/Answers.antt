@@ -1,6 +1,4 @@
-use Rattle.std.proofs.Common.{length, is_some, sym, ap, ◌∙◌, ap₂, arith}
-use Rattle.valve.specs.SetUp.{set_up_fault}
-use Rattle.valve.specs.declared.valves.ValveModel.{ValveModel}
+use Rattle.std.proofs.Common.{sym, arith, rules}
 use Rattle.valve.proofs.SetUpSteps.{fault_first, test_met, repair_met, all_clear}
 use Rattle.valve.proofs.ValveOpens.{valve_opens}
 use Rattle.valve.proofs.valves.ValveModel.new.Goals as goal
@@ -24,13 +22,4 @@ returns c =
     let rs = c.args.repairs.now in
     let ts = c.args.tests.now in
     let clear = all_clear rs ts (omega arith) (omega arith) (omega arith) (omega arith) (sym c.in_default.ensures) (sym c.in_default-faulty_repair.ensures) in
-    let model : ValveModel = record {
-      candidates = length rs;
-      repairs = c.held.result;
-      count = length ts;
-      tests = c.held-2.result;
-      costed = ap length c.held.ensures;
-      tested = ap length c.held-2.ensures;
-      sound = ap₂ (λ r t. is_some (set_up_fault r t)) c.held.ensures c.held-2.ensures ∙ ap is_some clear;
-    } in
-    record { value = (clear, c.held.ensures, c.held-2.ensures); first = fault_first rs ts _ clear; opens = valve_opens model }
+    record { value = (clear, search rules, search rules); first = fault_first rs ts _ clear; opens = search (rules, valve_opens) }

@@ -7,6 +7,5 @@ use Rattle.table.proofs.tables.rows.TableModelWorkModel.actions.Goals as goal
 pub returns-in-Open : goal.returns-in-Open
 returns-in-Open c =
     let t = c.args.self.now in
-    c.entries.ensures
-    ∙ sym (length-map (part t.actions.now c.in-Open.span) (table_action t.outcomes.now))
-    ∙ ap (λ s. length (actions s)) c.in-Open.ensures
+    let means = sym (length-map (part t.actions.now c.in-Open.span) (table_action t.outcomes.now)) ∙ ap (λ s. length (actions s)) c.in-Open.ensures in
+    cc means
