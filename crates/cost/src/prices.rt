@@ -4,6 +4,8 @@ ghost use Rattle.std.specs.Prelude.{◌≡◌, ◌<◌, ◌≤◌, length};
 mod entries;
 
 // A kind of work that has a price. Tasks are numbered 0 to 63.
+// Task and Price are no one type with const limits: memory is counted, and 64 prices take 128 bytes as
+// u16, a task one byte as u8.
 #[derive(Clone, Copy, PartialEq, Eq, Debug)]
 pub struct Task {
     number: u8,
@@ -22,5 +24,6 @@ pub struct Price {
 #[derive(Clone, Copy, Drop)]
 pub struct PriceList {
     prices: [Price; 64],
+    // Facts about a list are proved of the list alone, so its length is said here.
     ghost whole: { length prices ≡ 64 },
 }

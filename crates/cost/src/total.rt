@@ -6,7 +6,8 @@ ghost use Rattle.cost.specs.SumLaws.{sum_lawful};
 use crate::amount::Cost;
 use crate::counting::Rule;
 
-// The sum of the costs, stopped at the roof.
+// The sum of the costs, stopped at the roof. It shares with Largest what the trait says; its function
+// and laws are its own, and a rule made of a function would hide them behind a parameter.
 #[derive(Clone, Copy, Debug)]
 pub struct Sum;
 

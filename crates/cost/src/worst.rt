@@ -24,9 +24,7 @@ impl Rule for Largest {
     }
 
     fn take(&self, tally: &mut Cost, cost: Cost) {
-        if tally.get() < cost.get() {
-            *tally = cost;
-        }
+        *tally = (*tally).max(cost);
     }
 
     fn read(&self, taken: &Cost) -> Cost {

@@ -1,6 +1,11 @@
 -- The first fault of several: what a loop that looks for it keeps, and why it is the first.
-use Rattle.std.proofs.Common.{◌≡◌, ℕ, zero, suc, ◌+◌, ◌<◌, Bool, true, false, ltb, ◌⊎◌, List, [], ◌∷◌, Some, None, Option, sym, refl, ap, ◌∙◌, subst, inl, inr, ⊎_elim, add-one, arith}
+use Rattle.std.proofs.Common.{◌≡◌, ℕ, zero, suc, ◌+◌, ◌<◌, ◌≤◌, length, get_or, Bool, true, false, ltb, ◌⊎◌, List, [], ◌∷◌, Some, None, Option, sym, refl, ap, ◌∙◌, subst, inl, inr, ⊎_elim, add-one, arith}
 use Rattle.std.proofs.lemmas.Bool.{cases_lt, ltb-true, lt-ltb, or_cases, or_left, or_right}
+use Rattle.std.proofs.lemmas.Grind.{common_steps}
+use Rattle.std.proofs.lemmas.List.Quantifiers.{position-Some}
+use Rattle.std.proofs.lemmas.List.Sums.{fails_before_first}
+use Rattle.std.specs.List.{position, position_or_len}
+use Rattle.std.specs.Option.{option_map}
 use Rattle.model.specs.Firsts.{when, first_of, first_below, outside, NotAfter, IsFirst}
 
 -- A test that is true gives its fault, and one that is false gives none.
@@ -81,3 +86,22 @@ module _ {F : Type 0} (place : F → List ℕ) where
   pub first_same : (Holds Other : F → Type 0) (r : Option F) → IsFirst Holds place r → ((f : F) → Holds f → Other f) → ((f : F) → Other f → Holds f) → IsFirst Other place r
   first_same Holds Other None i to from = λ f h. i f (from f h)
   first_same Holds Other (Some x) i to from = (to x i.0, λ g h. i.1 g (from g h))
+
+-- No place below n has a fault where no test is true.
+none_below : {X F : Type 0} (p : X → Bool) (f : ℕ → F) (xs : List X) (d : X) (n : ℕ) → ((k : ℕ) → k < n → p (get_or xs k d) ≡ false) → first_below (λ j. when (p (get_or xs j d)) (f j)) n ≡ None
+none_below p f xs d zero none = refl
+none_below p f xs d (suc n) none =
+    first_of_right _ _ (none_below p f xs d n (λ k h. none k (omega arith))) ∙ when_false (p (get_or xs n d)) (f n) (none n (omega arith))
+
+-- The first entry of a list that a test finds faulty.
+pub first_by_position : {X F : Type 0} (p : X → Bool) (f : ℕ → F) (xs : List X) (d : X) → first_below (λ j. when (p (get_or xs j d)) (f j)) (length xs) ≡ option_map f (position p xs)
+first_by_position p f xs d = go (position p xs) refl
+  where
+    go : (r : Option ℕ) → position p xs ≡ r → first_below (λ j. when (p (get_or xs j d)) (f j)) (length xs) ≡ option_map f (position p xs)
+    go None e =
+        let all : length xs ≤ position_or_len p xs = grind (arith, common_steps) in
+        none_below p f xs d (length xs) (λ k h. fails_before_first p xs k d (omega arith)) ∙ sym (ap (option_map f) e)
+    go (Some i) e =
+        let at = position-Some p xs i d e in
+        found (λ j. when (p (get_or xs j d)) (f j)) i (length xs) (f i) at.0 (none_below p f xs d i at.2) (when_true (p (get_or xs i d)) (f i) at.1)
+        ∙ sym (ap (option_map f) e)

@@ -1,12 +1,13 @@
 -- What a trimmed model answers, by what the model under it answers.
-use Rattle.std.proofs.Common.{◌≡◌, ℕ, zero, suc, ◌+◌, ◌<◌, Bool, true, false, cond, not, ◌||◌, eqb, List, [], ◌∷◌, ◌++◌, map, length, get_or, take, Some, None, Option, unwrap_or, sym, refl, ap, ◌∙◌, ⊎_elim, arith}
+use Rattle.std.proofs.Common.{◌≡◌, ℕ, zero, suc, ◌<◌, Bool, true, false, cond, not, ◌||◌, eqb, List, [], ◌∷◌, map, length, get_or, Some, None, Option, unwrap_or, sym, refl, ap, ◌∙◌, ⊎_elim, arith}
 use Rattle.std.specs.List.{slice_get}
 use Rattle.std.specs.Option.{option_map}
 use Rattle.std.proofs.lemmas.List.FromFn.{length-map-range_with_len, get_or-map-range_with_len}
-use Rattle.std.proofs.lemmas.List.{get_or_past, length-map, take_more}
-use Rattle.std.proofs.lemmas.Bool.{cases_lt, eq-eqb, ne_eqb, or_right, true≢false, false≢true}
+use Rattle.std.proofs.lemmas.List.{get_or_past, length-map}
+use Rattle.std.proofs.lemmas.Bool.{cases_lt, eq-eqb, or_right, true≢false, false≢true}
 use Rattle.model.specs.Meaning.{Action, Barred, Free, State, End, Open, is_end, end_cost, actions, is_free, outcomes, state_at, action_at}
-use Rattle.model.proofs.Lookups.{get_or_nth, get_or_map_nth}
+use Rattle.std.proofs.lemmas.Option.{unwrap_or-slice_get}
+use Rattle.model.proofs.Lookups.{get_or_map_nth}
 use Rattle.model.specs.Trims.{lists, trim_action, trim_state, trimmed}
 
 pub length_trimmed : (m : List State) → length (trimmed m) ≡ length m
@@ -36,7 +37,7 @@ pub action_count_trimmed : (m : List State) (s : ℕ) → length (actions (state
 action_count_trimmed m s = ap (λ x. length (actions x)) (state_trimmed m s) ∙ ap length (trim_actions s (state_at m s)) ∙ length-map (actions (state_at m s)) (trim_action s)
 
 get_or_trim : (s : ℕ) (as' : List Action) (a : ℕ) → get_or (map (trim_action s) as') a Barred ≡ trim_action s (get_or as' a Barred)
-get_or_trim s as' a = get_or_map_nth (trim_action s) as' a Barred ∙ under_default s (slice_get as' a) ∙ sym (ap (trim_action s) (get_or_nth as' a Barred))
+get_or_trim s as' a = get_or_map_nth (trim_action s) as' a Barred ∙ under_default s (slice_get as' a) ∙ ap (trim_action s) (unwrap_or-slice_get as' a Barred)
   where
     under_default : (s : ℕ) (o : Option Action) → unwrap_or (option_map (trim_action s) o) Barred ≡ trim_action s (unwrap_or o Barred)
     under_default s None = refl
@@ -79,20 +80,6 @@ free_trimmed m s a e = trim_is_free s (action_at m s a) e ∙ sym (ap is_free (a
 
 pub barred_trimmed : (m : List State) (s a : ℕ) → is_free (action_at m s a) ≡ false → is_free (action_at m s a) ≡ is_free (action_at (trimmed m) s a)
 barred_trimmed m s a e = trim_is_barred s (action_at m s a) e ∙ sym (ap is_free (action_trimmed m s a))
-
--- One outcome more is looked at.
-lists_append : (s : ℕ) (xs ys : List ℕ) → lists s (xs ++ ys) ≡ (lists s xs || lists s ys)
-lists_append s [] ys = refl
-lists_append s (x ∷ xs) ys =
-    let rest = lists_append s xs ys in
-    elim (eqb x s) as (λ b. (b || lists s (xs ++ ys)) ≡ ((b || lists s xs) || lists s ys)) [ true ↦ refl | false ↦ rest ]
-
-pub lists_more : (s : ℕ) (os : List ℕ) (k : ℕ) → k < length os → lists s (take k os) ≡ false → (get_or os k 0 ≡ s → ⊥) → lists s (take (k + 1) os) ≡ false
-lists_more s os k h none other =
-    ap (lists s) (take_more os k 0 h)
-    ∙ lists_append s (take k os) (get_or os k 0 ∷ [])
-    ∙ ap (λ b. b || (eqb (get_or os k 0) s || false)) none
-    ∙ ap (λ b. b || false) (ne_eqb (get_or os k 0) s other)
 
 pub lists_found : (s : ℕ) (os : List ℕ) (k : ℕ) → k < length os → get_or os k 0 ≡ s → lists s os ≡ true
 lists_found s [] k h e = absurd (omega arith)

@@ -1,12 +1,11 @@
 -- What the layer Trim does to a model.
-use Rattle.std.specs.Prelude.{ℕ, Bool, false, cond, ◌||◌, List, [], ◌∷◌, map, length, ◌==◌}
-use Rattle.std.specs.List.{range_with_len}
+use Rattle.std.specs.Prelude.{ℕ, Bool, cond, List, map, length, ◌==◌}
+use Rattle.std.specs.List.{list_any, range_with_len}
 use Rattle.model.specs.Meaning.{Action, Barred, Free, State, End, Open, state_at}
 
 -- Whether a list of outcomes has a state.
 abbrev pub lists : ℕ → List ℕ → Bool
-lists s [] = false
-lists s (o ∷ os) = o == s || lists s os
+lists s = list_any (λ o. o == s)
 
 -- An action of a state, barred where it lists that state.
 abbrev pub trim_action : ℕ → Action → Action

@@ -1,8 +1,10 @@
 // What can be wrong with a model.
-ghost use Rattle.std.specs.Prelude.{◌≡◌};
+ghost use Rattle.std.specs.Prelude.{◌≡◌, Some};
 ghost use Rattle.model.specs.Refusals.{model_refusal, model_words};
 
 use crate::refusals::{Refusal, Values};
+use std::error::Error;
+use std::fmt;
 
 // What can be wrong with a model that is read, each cause with its place.
 #[derive(Clone, Copy, PartialEq, Eq, Debug)]
@@ -24,6 +26,7 @@ pub enum ModelFault {
 
 impl ModelFault {
     // The number of the refusal and the values that it returns.
+    // No `From`: `fault.refusal()` reads alike for every fault, one of which has none.
     pub fn refusal(self) -> Refusal
         ensures { result ≡ model_refusal self }
     {
@@ -56,3 +59,14 @@ impl ModelFault {
         }
     }
 }
+
+// A fault prints its cause in words.
+impl fmt::Display for ModelFault {
+    ghost output = { λ f. Some (model_words f) };
+
+    fn fmt<W: fmt::Write>(&self, f: &mut fmt::Formatter<W>) -> fmt::Result {
+        f.write_str(self.words())
+    }
+}
+
+impl Error for ModelFault {}

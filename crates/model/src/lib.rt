@@ -7,6 +7,8 @@ pub mod refusals;
 pub mod faults;
 // The questions that every model answers.
 pub mod questions;
+// The outcomes of an action, one after another.
+pub mod outcomes;
 // The reading of a model that opening it and writing it share.
 pub mod reading;
 // The layer Trim, over any model.
@@ -16,6 +18,7 @@ pub mod facts;
 
 pub use faults::ModelFault;
 pub use layers::Trim;
+pub use outcomes::{Outcomes, outcomes_of};
 pub use questions::Model;
-pub use reading::first_fault;
+pub use reading::{check, first_fault};
 pub use refusals::{Refusal, Values};

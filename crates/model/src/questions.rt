@@ -4,7 +4,8 @@ ghost use Rattle.model.specs.Meaning.{State, is_end, end_cost, actions, is_free,
 ghost use Rattle.model.specs.Meaning.{task as task_of};
 
 // A planning model. Every answer comes from its meaning; about what is not there the answer is 0
-// or no. Asking changes nothing and never refuses.
+// or no. Asking changes nothing and never refuses. A yes or no stands beside the value that it speaks
+// of, and is no Option around it, since callers ask for one without the other.
 pub trait Model {
     // The list of its states.
     ghost meaning: { Self → List State };

@@ -4,7 +4,8 @@ ghost use Rattle.model.specs.Refusals.{refused, refusal_text};
 
 use std::fmt;
 
-// The values that a refusal returns, at most three, in the order of the table of refusals.
+// The values that a refusal returns, at most three, in the order of the table of refusals. No list: the
+// cause says how many there are, and a refusal is copied.
 #[derive(Clone, Copy, PartialEq, Eq, Debug)]
 pub enum Values {
     Nothing,
@@ -13,7 +14,8 @@ pub enum Values {
     Three(usize, usize, usize),
 }
 
-// What a refused call answers: the number of the cause and the values that go with it.
+// What a refused call answers: the number of the cause and the values that go with it. Inside, each
+// cause is a variant of a fault; the number is what the caller is shown.
 #[derive(Clone, Copy, PartialEq, Eq, Debug)]
 pub struct Refusal {
     pub number: u8,

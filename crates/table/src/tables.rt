@@ -4,7 +4,8 @@ mod rows;
 mod spans;
 
 // A run of entries of a table: the first one's place and how many there are.
-#[derive(Clone, Copy, PartialEq, Eq, Debug)]
+// A span and no list of its own, since the tables are lent whole and nothing is allocated.
+#[derive(Clone, Copy, PartialEq, Eq, Default, Debug)]
 pub struct Span {
     pub first: u32,
     pub count: u32,

@@ -1,12 +1,14 @@
 -- What the tests of a set-up tell, one after the other.
-use Rattle.std.proofs.Common.{◌≡◌, ℕ, ◌≤◌, false, ltb, List, length, Some, None, Option, ◌∙◌, subst}
+use Rattle.std.proofs.Common.{◌≡◌, ℕ, ◌≤◌, false, ltb, List, length, Option, ◌∙◌, subst, ap₂}
 use Rattle.std.proofs.lemmas.Bool.{or_from, le-ltb}
+use Rattle.std.specs.List.{position}
+use Rattle.std.specs.Option.{option_map}
 use Rattle.model.specs.Firsts.{when, first_of, first_below, outside, IsFirst}
-use Rattle.valve.specs.SetUp.{test_fault, repair_fault, set_up_fault, SetUpHolds, set_up_place}
+use Rattle.valve.specs.SetUp.{is_faulty, test_fault, repair_fault, set_up_fault, SetUpHolds, set_up_place}
 use Rattle.valve.specs.declared.faults.ValveFault.{ValveFault}
 use Rattle.valve.specs.declared.faults.ValveFault.TheVariants as fault
 use Rattle.valve.specs.declared.valves.Test.{Test}
-use Rattle.model.proofs.Firsts.{first_of_left, first_of_right, when_false}
+use Rattle.model.proofs.Firsts.{first_of_right, when_false, first_by_position}
 use Rattle.valve.proofs.SetUpLaw.{set_up_fault_first}
 
 inside_range : (low high n : ℕ) → low ≤ n → n ≤ high → outside low high n ≡ false
@@ -24,11 +26,11 @@ module _ (repairs : List ℕ) (tests : List Test) where
         first_of_right (when (outside 2 12 (length repairs)) (fault.Candidates (length repairs))) _ (when_false (outside 2 12 (length repairs)) (fault.Candidates (length repairs)) (inside_range 2 12 (length repairs) low high))
         ∙ first_of_right (when (outside 1 16 (length tests)) (fault.Tests (length tests))) _ (when_false (outside 1 16 (length tests)) (fault.Tests (length tests)) (inside_range 1 16 (length tests) some few))
 
-    pub test_met : (f : ValveFault) → first_below (test_fault (length repairs) tests) (length tests) ≡ Some f → set_up_fault repairs tests ≡ Some f
-    test_met f e = by_entries ∙ first_of_left (first_below (test_fault (length repairs) tests) (length tests)) _ f e
+    test_first : first_below (test_fault (length repairs) tests) (length tests) ≡ option_map fault.Test (position (is_faulty (length repairs)) tests)
+    test_first = first_by_position (is_faulty (length repairs)) fault.Test tests (record { task = 0; set = 0 })
 
-    pub repair_met : (f : ValveFault) → first_below (test_fault (length repairs) tests) (length tests) ≡ None → first_below (repair_fault repairs) (length repairs) ≡ Some f → set_up_fault repairs tests ≡ Some f
-    repair_met f none e = by_entries ∙ first_of_right (first_below (test_fault (length repairs) tests) (length tests)) _ none ∙ e
+    repair_first : first_below (repair_fault repairs) (length repairs) ≡ option_map fault.Repair (position (ltb 1000000) repairs)
+    repair_first = first_by_position (ltb 1000000) fault.Repair repairs 0
 
-    pub all_clear : first_below (test_fault (length repairs) tests) (length tests) ≡ None → first_below (repair_fault repairs) (length repairs) ≡ None → set_up_fault repairs tests ≡ None
-    all_clear none e = by_entries ∙ first_of_right (first_below (test_fault (length repairs) tests) (length tests)) _ none ∙ e
+    pub by_positions : set_up_fault repairs tests ≡ first_of (option_map fault.Test (position (is_faulty (length repairs)) tests)) (option_map fault.Repair (position (ltb 1000000) repairs))
+    by_positions = by_entries ∙ ap₂ first_of test_first repair_first

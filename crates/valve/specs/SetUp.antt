@@ -1,5 +1,5 @@
 -- Which valve set-ups are taken, and what is wrong with the others.
-use Rattle.std.specs.Prelude.{◌≡◌, ℕ, ◌^◌, ◌<◌, ◌≤◌, ◌||◌, ◌⊎◌, List, [], ◌∷◌, length, Option, nat_le, nat_lt, slice_index, slice_index_or}
+use Rattle.std.specs.Prelude.{◌≡◌, ℕ, ◌^◌, ◌<◌, ◌≤◌, Bool, ◌||◌, ◌⊎◌, List, [], ◌∷◌, length, Option, nat_le, nat_lt, slice_index, slice_index_or}
 use Rattle.model.specs.Firsts.{when, first_of, first_below, outside}
 use Rattle.valve.specs.declared.faults.ValveFault.{ValveFault}
 use Rattle.valve.specs.declared.faults.ValveFault.TheVariants as fault
@@ -9,9 +9,13 @@ use Rattle.valve.specs.declared.valves.Test.{Test}
 abbrev pub test_at : List Test → ℕ → Test
 test_at tests j = slice_index_or tests j (record { task = 0; set = 0 })
 
--- What is wrong with one test: its task, or its set.
+-- A test of a set-up of n candidates is faulty: its task, or its set.
+abbrev pub is_faulty : ℕ → Test → Bool
+is_faulty n t = nat_lt 63 t.task || nat_le (2 ^ n) t.set
+
+-- What is wrong with one test.
 abbrev pub test_fault : ℕ → List Test → ℕ → Option ValveFault
-test_fault n tests j = when (nat_lt 63 (test_at tests j).task || nat_le (2 ^ n) (test_at tests j).set) (fault.Test j)
+test_fault n tests j = when (is_faulty n (test_at tests j)) (fault.Test j)
 
 -- What is wrong with the repair cost of one candidate.
 abbrev pub repair_fault : List ℕ → ℕ → Option ValveFault

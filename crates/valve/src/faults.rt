@@ -1,8 +1,10 @@
 // What can be wrong with a valve set-up.
-ghost use Rattle.std.specs.Prelude.{◌≡◌};
+ghost use Rattle.std.specs.Prelude.{◌≡◌, Some};
 ghost use Rattle.valve.specs.Refusals.{valve_refusal, valve_words};
 
 use model::{Refusal, Values};
+use std::error::Error;
+use std::fmt;
 
 // What can be wrong with a valve set-up.
 #[derive(Clone, Copy, PartialEq, Eq, Debug)]
@@ -19,6 +21,7 @@ pub enum ValveFault {
 
 impl ValveFault {
     // The number of the refusal and the value that it returns.
+    // No `From`: `fault.refusal()` reads alike for every fault, one of which has none.
     pub fn refusal(self) -> Refusal
         ensures { result ≡ valve_refusal self }
     {
@@ -43,3 +46,14 @@ impl ValveFault {
         }
     }
 }
+
+// A fault prints its cause in words.
+impl fmt::Display for ValveFault {
+    ghost output = { λ f. Some (valve_words f) };
+
+    fn fmt<W: fmt::Write>(&self, f: &mut fmt::Formatter<W>) -> fmt::Result {
+        f.write_str(self.words())
+    }
+}
+
+impl Error for ValveFault {}

@@ -24,6 +24,8 @@ pub struct Split {
 
 // A valve model: what it costs to repair each candidate, and the tests there are. It holds its own
 // copy of both lists, which have at most 12 and 16 entries.
+// Arrays with their lengths beside them: the model is `Copy`, takes no heap and outlives the lists that it
+// is made from, as no list type does.
 #[derive(Clone, Copy, Debug)]
 pub struct ValveModel {
     candidates: usize,

@@ -1,21 +1,20 @@
-// Making costs, reading them and adding them up.
-ghost use Rattle.std.specs.Prelude.{◌≡◌, ◌+◌, ◌<◌, ◌≤◌, min};
-ghost use Rattle.cost.specs.Costs.{roof, capped};
+// Making costs, reading them, adding them up and printing them.
+ghost use Rattle.std.specs.Prelude.{◌≡◌, ◌+◌, ◌<◌, ◌≤◌, min, Some};
+ghost use Rattle.cost.specs.Costs.{roof, capped, cost_text};
 
 use super::Cost;
+use std::fmt;
 
 impl Cost {
     // The largest cost as a plain number.
     pub const ROOF: u32 = 1_000_000_001;
 
-    // The cost of a plain number; what is above the roof counts as the roof.
+    // The cost of a plain number; what is above the roof counts as the roof, which a `From` would not say.
     pub fn new(number: u32) -> Cost
         ensures { result.value ≡ min roof number }
     {
-        if number < Self::ROOF {
-            Cost { value: number }
-        } else {
-            Cost { value: Self::ROOF }
+        Cost {
+            value: number.min(Self::ROOF),
         }
     }
 
@@ -34,6 +33,7 @@ impl Cost {
         ensures past_roof { roof < self.value + other.value → result.value ≡ roof }
         ensures below_roof { self.value + other.value ≤ roof → result.value ≡ self.value + other.value }
     {
+        // A rule of this project: the four cases in their order, to be ticked off beside the rule.
         if self.get() == Self::ROOF {
             self
         } else if other.get() == Self::ROOF {
@@ -44,6 +44,19 @@ impl Cost {
             Cost {
                 value: self.get() + other.get(),
             }
+        }
+    }
+}
+
+impl fmt::Display for Cost {
+    ghost output = { λ c. Some (cost_text c.value) };
+
+    fn fmt<W: fmt::Write>(&self, f: &mut fmt::Formatter<W>) -> fmt::Result {
+        if self.value == Self::ROOF {
+            write!(f, "roof")
+        } else {
+            let number = self.value;
+            write!(f, "{number}")
         }
     }
 }

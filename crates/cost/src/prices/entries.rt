@@ -1,5 +1,5 @@
 // Making tasks and prices from plain numbers; reading and setting a list's prices.
-ghost use Rattle.std.specs.Prelude.{◌≡◌, ℕ, ◌<◌, ◌≤◌, replicate, ◌≢◌, slice_index, slice_set};
+ghost use Rattle.std.specs.Prelude.{◌≡◌, ℕ, ◌<◌, ◌≤◌, map, replicate, ◌≢◌, slice_index, slice_set};
 ghost use Rattle.std.specs.Option.{SomeIff, option_map};
 ghost use Rattle.cost.specs.Prices.{task_number, price_number, figures, InRange};
 
@@ -7,7 +7,8 @@ use super::{Price, PriceList, Task};
 use crate::amount::Cost;
 
 impl Task {
-    // The task of that number; none above 63.
+    // The task of that number; none above 63. Named as in std's NonZeroU8: a `TryFrom` would need an
+    // error type that tells no more than `None`.
     pub fn new(number: u8) -> Option<Task>
         ensures { SomeIff (option_map task_number result) (number < 64) number }
     {
@@ -26,11 +27,11 @@ impl Task {
 }
 
 impl Price {
-    // The price of that number; none outside 1 to 10,000.
+    // The price of that number; none outside 1 to 10,000. Named as in std's NonZeroU16, as a task is.
     pub fn new(value: u16) -> Option<Price>
         ensures { SomeIff (option_map price_number result) ((1 ≤ value) × (value ≤ 10000)) value }
     {
-        if 1 <= value && value <= 10_000 {
+        if (1..=10_000).contains(&value) {
             Some(Price { value })
         } else {
             None
@@ -42,12 +43,14 @@ impl Price {
     {
         self.value
     }
+}
 
-    // The price as a cost.
-    pub fn cost(self) -> Cost
-        ensures { result.value ≡ self.value }
-    {
-        Cost::new(u32::from(self.get()))
+// The price as a cost.
+impl From<Price> for Cost {
+    ghost from_gives = { λ p c. c.value ≡ p.value };
+
+    fn from(price: Price) -> Cost {
+        Cost::new(u32::from(price.get()))
     }
 }
 
@@ -67,6 +70,13 @@ impl PriceList {
         ensures in_range { InRange (figures self.now) }
     {
         self.prices[task.number as usize]
+    }
+
+    // All prices, in the order of the tasks.
+    pub fn as_slice(&self) -> &[Price]
+        ensures { map price_number result.now ≡ figures self.now }
+    {
+        &self.prices
     }
 
     // Sets the price of one task and leaves the others.

@@ -12,11 +12,8 @@ impl TableModel<'_> {
     fn row(&self, state: usize) -> StateRow
         ensures { table_state self.now.actions.now self.now.outcomes.now result ≡ state_at (meaning_of self.now) state }
     {
-        if state < self.states() {
-            self.states[state]
-        } else {
-            StateRow::Open(Span { first: 0, count: 0 })
-        }
+        let no_actions = StateRow::Open(Span::default());
+        self.states.get(state).copied().unwrap_or(no_actions)
     }
 
     // The row of an action; none at an end and past the last action.
@@ -38,10 +35,7 @@ impl WorkModel for TableModel<'_> {
     }
 
     fn is_end(&self, state: usize) -> bool {
-        match self.row(state) {
-            StateRow::End(_) => true,
-            StateRow::Open(_) => false,
-        }
+        matches!(self.row(state), StateRow::End(_))
     }
 
     fn end_cost(&self, state: usize) -> u32 {
@@ -63,23 +57,18 @@ impl WorkModel for TableModel<'_> {
     }
 
     fn task(&self, state: usize, action: usize) -> u8 {
-        match self.action_row(state, action) {
-            Some(row) => row.task,
-            None => 0,
-        }
+        self.action_row(state, action).map_or(0, |row| row.task)
     }
 
     fn outcomes(&self, state: usize, action: usize) -> usize {
-        match self.action_row(state, action) {
-            Some(row) => row.outcomes.entries(self.outcomes),
-            None => 0,
-        }
+        self.action_row(state, action)
+            .map_or(0, |row| row.outcomes.entries(self.outcomes))
     }
 
     fn outcome(&self, state: usize, action: usize, place: usize) -> usize {
-        match self.action_row(state, action) {
-            Some(row) => row.outcomes.entry(self.outcomes, place).unwrap_or(0) as usize,
-            None => 0,
-        }
+        let Some(row) = self.action_row(state, action) else {
+            return 0;
+        };
+        usize::from(row.outcomes.entry(self.outcomes, place).unwrap_or(0))
     }
 }

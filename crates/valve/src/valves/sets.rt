@@ -61,23 +61,17 @@ impl WorkModel for ValveModel {
     }
 
     fn task(&self, state: usize, action: usize) -> u8 {
-        match self.split(state, action) {
-            Some(split) => split.task,
-            None => 0,
-        }
+        self.split(state, action).map_or(0, |split| split.task)
     }
 
     fn outcomes(&self, state: usize, action: usize) -> usize {
-        match self.split(state, action) {
-            Some(_) => 2,
-            None => 0,
-        }
+        self.split(state, action).map_or(0, |_| 2)
     }
 
     fn outcome(&self, state: usize, action: usize, place: usize) -> usize {
-        match self.split(state, action) {
-            Some(split) if place == 0 => split.smaller,
-            Some(split) if place == 1 => split.larger,
+        match (self.split(state, action), place) {
+            (Some(split), 0) => split.smaller,
+            (Some(split), 1) => split.larger,
             _ => 0,
         }
     }

@@ -1,9 +1,10 @@
 // Setting up a valve model.
-ghost use Rattle.std.specs.Prelude.{◌≡◌, ◌≤◌, length, take, IfOk, Some, None, MatchResult};
+ghost use Rattle.std.specs.Prelude.{◌≡◌, ◌≤◌, length, take, nat_lt, IfOk, Some, None, MatchResult};
+ghost use Rattle.std.specs.List.{position};
 ghost use Rattle.std.specs.Result.{result_err};
-ghost use Rattle.model.specs.Firsts.{first_below, IsFirst};
+ghost use Rattle.model.specs.Firsts.{IsFirst};
 ghost use Rattle.model.specs.Reading.{Opens};
-ghost use Rattle.valve.specs.SetUp.{test_fault, repair_fault, set_up_fault, SetUpHolds, set_up_place};
+ghost use Rattle.valve.specs.SetUp.{is_faulty, set_up_fault, SetUpHolds, set_up_place};
 ghost use Rattle.valve.specs.Valves.{repairs_of, tests_of, meaning_of};
 
 use super::{Test, ValveModel};
@@ -24,11 +25,11 @@ impl ValveModel {
         if count < 1 || 16 < count {
             return Err(ValveFault::Tests(count));
         }
-        if let Some(fault) = faulty_test(candidates, tests) {
-            return Err(fault);
+        if let Some(test) = faulty_test(candidates, tests) {
+            return Err(ValveFault::Test(test));
         }
-        if let Some(fault) = faulty_repair(repairs) {
-            return Err(fault);
+        if let Some(candidate) = faulty_repair(repairs) {
+            return Err(ValveFault::Repair(candidate));
         }
         let nothing = Test { task: 0, set: 0 };
         Ok(ValveModel {
@@ -46,34 +47,24 @@ fn held<T: Copy, const N: usize>(rest: T, items: &[T]) -> [T; N]
     ensures { take (length items.now) result ≡ items.now }
 {
     let mut array = [rest; N];
-    for (i, item) in items.iter().enumerate() {
-        array[i] = *item;
-    }
+    array[..items.len()].copy_from_slice(items);
     array
 }
 
 // The first test whose task or set is outside its limits.
-fn faulty_test(candidates: usize, tests: &[Test]) -> Option<ValveFault>
+fn faulty_test(candidates: usize, tests: &[Test]) -> Option<usize>
     requires { candidates ≤ 12 }
-    ensures { result ≡ first_below (test_fault candidates tests.now) (length tests.now) }
+    ensures { result ≡ position (is_faulty candidates) tests.now }
 {
     let sets = 1u16 << candidates;
-    for (j, test) in tests.iter().enumerate() {
-        if 63 < test.task || sets <= test.set {
-            return Some(ValveFault::Test(j));
-        }
-    }
-    None
+    tests
+        .iter()
+        .position(|test| 63 < test.task || sets <= test.set)
 }
 
 // The first candidate whose repair cost is outside its limits.
-fn faulty_repair(repairs: &[u32]) -> Option<ValveFault>
-    ensures { result ≡ first_below (repair_fault repairs.now) (length repairs.now) }
+fn faulty_repair(repairs: &[u32]) -> Option<usize>
+    ensures { result ≡ position (nat_lt 1000000) repairs.now }
 {
-    for (c, repair) in repairs.iter().enumerate() {
-        if 1_000_000 < *repair {
-            return Some(ValveFault::Repair(c));
-        }
-    }
-    None
+    repairs.iter().position(|repair| 1_000_000 < *repair)
 }

@@ -1,25 +1,10 @@
-use Rattle.std.proofs.Common.{◌≤◌, length, sym, ap, ◌∙◌, arith}
-use Rattle.std.proofs.lemmas.List.{take_all}
-use Rattle.model.specs.Meaning.{outcomes, action_at}
-use Rattle.model.specs.Trims.{lists}
-use Rattle.model.proofs.Trimmed.{lists_more, lists_found}
+use Rattle.std.proofs.Common.{rules, eqb}
+use borrow.Author.Tests.{tests}
+use Rattle.std.proofs.lemmas.Iterator.Consumers.{YieldsList-from_first}
+use Rattle.std.proofs.lemmas.Iterator.Search.{any_from_yields_List}
 use Rattle.model.proofs.layers.lists_itself.Goals as goal
-
-pub returns-then-outcome-state : goal.returns-then-outcome-state
-returns-then-outcome-state g c =
-    let s = c.args.state in
-    let os = outcomes (action_at (g.M.Model.meaning c.args.model.now) s c.args.action) in
-    sym (lists_found s os c.loop-place.place (omega arith) (sym c.outcome.ensures ∙ c.if-outcome-state.true))
-
-pub loop-place-preserved : goal.loop-place-preserved
-loop-place-preserved g c =
-    let s = c.args.state in
-    let os = outcomes (action_at (g.M.Model.meaning c.args.model.now) s c.args.action) in
-    lists_more s os c.loop-place.place (omega arith) c.loop-place.invariant (λ e. c.if-outcome-state.false (c.outcome.ensures ∙ e))
 
 pub returns : goal.returns
 returns g c =
-    let s = c.args.state in
-    let os = outcomes (action_at (g.M.Model.meaning c.args.model.now) s c.args.action) in
-    let all : length os ≤ c.loop-place.place = omega arith in
-    sym (sym (ap (lists s) (take_all c.loop-place.place os all)) ∙ c.loop-place.invariant)
+    any_from_yields_List (λ o. eqb o c.args.state) c.any.new.self _ _ c.any.ensures.ran (YieldsList-from_first (λ o. o) _ _ c.outcomes_of.ensures)
+    (λ o b f k. search (rules, tests))

@@ -1,5 +1,7 @@
-use Rattle.std.proofs.Common.{sym, arith, rules}
-use Rattle.valve.proofs.SetUpSteps.{fault_first, test_met, repair_met, all_clear}
+use Rattle.std.proofs.Common.{◌≡◌, Some, None, rules, arith}
+use Rattle.valve.specs.SetUp.{set_up_fault}
+use Rattle.valve.specs.declared.faults.ValveFault.TheVariants as fault
+use Rattle.valve.proofs.SetUpSteps.{fault_first, by_positions}
 use Rattle.valve.proofs.ValveOpens.{valve_opens}
 use Rattle.valve.proofs.valves.ValveModel.new.Goals as goal
 
@@ -7,19 +9,27 @@ pub returns-in-Some : goal.returns-in-Some
 returns-in-Some c =
     let rs = c.args.repairs.now in
     let ts = c.args.tests.now in
-    let met = test_met rs ts (omega arith) (omega arith) (omega arith) (omega arith) c.in-Some.fault (sym c.in-Some.ensures) in
-    record { value = met; first = fault_first rs ts _ met; opens = tt }
+    let law = by_positions rs ts (omega arith) (omega arith) (omega arith) (omega arith) in
+    let value : set_up_fault rs ts ≡ Some (fault.Test c.in-Some.test) = search rules in
+    record { value = search rules; first = search (rules, fault_first rs ts _ value); opens = tt }
 
 pub returns-in-Some-faulty_repair : goal.returns-in-Some-faulty_repair
 returns-in-Some-faulty_repair c =
     let rs = c.args.repairs.now in
     let ts = c.args.tests.now in
-    let met = repair_met rs ts (omega arith) (omega arith) (omega arith) (omega arith) c.in-Some-faulty_repair.fault (sym c.in_default.ensures) (sym c.in-Some-faulty_repair.ensures) in
-    record { value = met; first = fault_first rs ts _ met; opens = tt }
+    let law = by_positions rs ts (omega arith) (omega arith) (omega arith) (omega arith) in
+    let value : set_up_fault rs ts ≡ Some (fault.Repair c.in-Some-faulty_repair.candidate) = search rules in
+    record { value = search rules; first = search (rules, fault_first rs ts _ value); opens = tt }
 
 pub returns : goal.returns
 returns c =
     let rs = c.args.repairs.now in
     let ts = c.args.tests.now in
-    let clear = all_clear rs ts (omega arith) (omega arith) (omega arith) (omega arith) (sym c.in_default.ensures) (sym c.in_default-faulty_repair.ensures) in
+    let law = by_positions rs ts (omega arith) (omega arith) (omega arith) (omega arith) in
+    let clear : set_up_fault rs ts ≡ None = search rules in
     record { value = (clear, search rules, search rules); first = fault_first rs ts _ clear; opens = search (rules, valve_opens) }
+
+pub invariant_of-result : goal.invariant_of-result
+invariant_of-result c =
+    let law = by_positions c.args.repairs.now c.args.tests.now (omega arith) (omega arith) (omega arith) (omega arith) in
+    search rules

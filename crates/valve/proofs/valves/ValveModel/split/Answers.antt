@@ -1,14 +1,10 @@
 use Rattle.std.proofs.Common.{◌≡◌, min, ◌⊎◌, [], ◌∷◌, sym, ap, ◌∙◌, inl, inr, arith, rules}
-use Rattle.std.proofs.lemmas.Nat.{and_le_l}
 use Rattle.model.specs.Meaning.{Free}
 use Rattle.valve.specs.SetUp.{test_at}
 use Rattle.valve.specs.Valves.{inside_part, outside_part}
-use Rattle.valve.proofs.ValveStates.{count_few, has_test, action_is, past_actions, test_barred, test_free}
+use Rattle.valve.proofs.ValveStates.{count_few, has_test, action_is, test_barred, test_free}
 use Rattle.valve.proofs.valves.ValveModel.split.Goals as goal
 use Rattle.valve.proofs.valves.ValveModel.split.Goals.{then-inside-eq0-via-then-inside-eq0, then-inside-eq0-via-else-inside-eq0+then-outside-eq0}
-
-pub returns-then-actions-test : goal.returns-then-actions-test
-returns-then-actions-test c = past_actions c.args.self.now c.args.state c.args.test (omega arith)
 
 pub offset_bounds-self-test : goal.offset_bounds-self-test
 offset_bounds-self-test c =
@@ -26,9 +22,6 @@ pub bounds-self-test-2 : goal.bounds-self-test-2
 bounds-self-test-2 c =
     let v = c.args.self.now in
     omega (arith, count_few v, has_test v c.args.state c.args.test (omega arith))
-
-pub overflow_sub-outside : goal.overflow_sub-outside
-overflow_sub-outside c = and_le_l c.args.state (test_at c.args.self.now.tests c.args.test).set
 
 pub returns-then-inside-eq0 : goal.returns-then-inside-eq0
 returns-then-inside-eq0 c =
