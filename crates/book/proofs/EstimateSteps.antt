@@ -1,9 +1,9 @@
 -- Reading estimates one after the other.
-use Rattle.std.proofs.Common.{◌≡◌, ℕ, Bool, true, false, cond, not, eqb, List, [], ◌∷◌, length, Some, None, Option, sym, ap, ◌∙◌, arith}
+use Rattle.std.proofs.Common.{◌≡◌, ℕ, false, cond, not, eqb, List, [], ◌∷◌, length, Option, ap, arith}
 use Rattle.std.proofs.lemmas.Bool.{eq-eqb}
 use Rattle.model.specs.Firsts.{when, first_below}
 use Rattle.model.specs.Meaning.{State, state_at}
-use Rattle.model.proofs.Firsts.{when_true, when_false, first_of_right}
+use Rattle.model.proofs.Firsts.{when_false, first_of_right}
 use Rattle.book.specs.Estimates.{estimate_right, estimate_fault}
 use Rattle.book.specs.declared.faults.EstimateFault.{EstimateFault}
 use Rattle.book.specs.declared.faults.EstimateFault.TheVariants.{Length, Estimate}
@@ -12,12 +12,6 @@ module _ (m : List State) (value : List ℕ → ℕ) (prices es : List ℕ) wher
   -- What is wrong with the estimate of a state.
   abbrev pub each_fault : ℕ → Option EstimateFault
   each_fault s = when (not (estimate_right m value prices es s (state_at m s))) (Estimate s)
-
-  pub each_right : (s : ℕ) (right : Bool) → right ≡ estimate_right m value prices es s (state_at m s) → right ≡ true → each_fault s ≡ None
-  each_right s right is e = when_false (not (estimate_right m value prices es s (state_at m s))) (Estimate s) (ap not (sym is ∙ e))
-
-  pub each_wrong : (s : ℕ) (right : Bool) → right ≡ estimate_right m value prices es s (state_at m s) → right ≡ false → each_fault s ≡ Some (Estimate s)
-  each_wrong s right is e = when_true (not (estimate_right m value prices es s (state_at m s))) (Estimate s) (ap not (sym is ∙ e))
 
 -- Where there are as many estimates as states, the first fault is that of an estimate.
 pub as_many : (m : List State) (value : List ℕ → ℕ) (prices es : List ℕ) → eqb (length es) 0 ≡ false → length es ≡ length m → estimate_fault m value prices es ≡ first_below (each_fault m value prices es) (length m)

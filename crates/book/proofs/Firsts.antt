@@ -1,16 +1,15 @@
 -- Lists whose first entries are those of a function.
-use Rattle.std.proofs.Common.{◌≡◌, ℕ, ◌+◌, ◌-◌, ◌<◌, ◌≤◌, min, false, cond, eqb, ltb, List, [], ◌∷◌, ◌++◌, map, length, get_or, drop, set, sym, ap, ◌∙◌, ⊎_elim, append_assoc, arith}
+use Rattle.std.proofs.Common.{◌≡◌, ℕ, ◌+◌, ◌-◌, ◌<◌, ◌≤◌, min, ltb, List, [], ◌∷◌, ◌++◌, map, length, get_or, take, drop, set, sym, ap, ap₂, ◌∙◌, ⊎_elim, append_assoc, arith}
 use mathlib.Core.Path.{fun_ext}
-use Rattle.std.specs.List.{range_with_len}
-use Rattle.std.proofs.lemmas.List.FromFn.{length-map-range_with_len, map-range_with_len_more, get_or-map-range_with_len}
-use Rattle.std.proofs.lemmas.List.{drop_more, set_at, get_or-append_right, get_or-drop, get_or_past, get_or-map, map-set, drop_all, append-nil}
+use Rattle.std.specs.List.{range_with_len, take-map, drop-map}
+use Rattle.std.proofs.lemmas.List.FromFn.{length-map-range_with_len, map-range_with_len_more}
+use Rattle.std.proofs.lemmas.List.{drop_more, set_at, map-append, length-map, length-take-le, get_or-append_right, get_or-drop, get_or_past, get_or-map, map-set, drop_all, append-nil}
 use Rattle.std.proofs.lemmas.Bool.{cases_lt, cond-true, cond-false, lt-ltb, le-ltb}
 use Rattle.cost.specs.Costs.{roof}
 use Rattle.cost.specs.declared.amount.Cost.{Cost}
-use Rattle.model.specs.Meaning.{State}
 use Rattle.plan.specs.Bounds.{bounds_of}
 use Rattle.book.specs.Estimates.{estimate_bounds}
-use Rattle.book.specs.Openings.{first_by, opening_bound}
+use Rattle.book.specs.Openings.{first_by}
 
 -- One entry more.
 pub first_by_more : {X : Type 0} (f : ℕ → X) (n : ℕ) (xs : List X) → n < length xs → set (first_by f n xs) n (f n) ≡ first_by f (n + 1) xs
@@ -27,14 +26,19 @@ first_by_rest f n xs d =
     ∙ get_or-drop n xs (n - n) d
     ∙ ap (λ i. get_or xs i d) (omega arith)
 
--- Past the estimates that there are, the bound at opening is 0.
-pub past_estimates : (m : List State) (es : List ℕ) (s : ℕ) → eqb (length es) 0 ≡ false → length es ≤ s → opening_bound m es s ≡ 0
-past_estimates m [] s some past = let z : ◌≡◌ {A = ℕ} 0 1 = ap (λ b. cond b 0 1) some in absurd (omega arith)
-past_estimates m (e ∷ es) s some past = ap (min roof) (get_or_past (e ∷ es) s 0 past)
+-- A list whose first entries were all written in a part of their own.
+pub first_by_part : {X : Type 0} (f : ℕ → X) (n : ℕ) (xs : List X) → n ≤ length xs → first_by f n (take n xs) ++ drop n xs ≡ first_by f n xs
+first_by_part f n xs h =
+    ap (λ l. (map f (range_with_len 0 n) ++ l) ++ drop n xs) (drop_all n (take n xs) (omega (arith, length-take-le n xs h)))
+    ∙ ap (λ l. l ++ drop n xs) (append-nil (map f (range_with_len 0 n)))
 
 -- Costs as numbers.
 abbrev pub numbers : List Cost → List ℕ
 numbers bs = map (λ (c : Cost). c.value) bs
+
+-- Costs that are the same numbers are as many.
+pub as_long : (bs cs : List Cost) → numbers bs ≡ numbers cs → length bs ≡ length cs
+as_long bs cs same = sym (length-map bs (λ (c : Cost). c.value)) ∙ ap length same ∙ length-map cs (λ (c : Cost). c.value)
 
 -- One cost more is written.
 pub cost_written : (f : ℕ → ℕ) (k : ℕ) (old : List ℕ) (bs : List Cost) (x : Cost) → numbers bs ≡ first_by f k old → k < length old → x.value ≡ f k → numbers (set bs k x) ≡ first_by f (k + 1) old
@@ -49,13 +53,19 @@ pub cost_unwritten : (f : ℕ → ℕ) (k : ℕ) (old : List ℕ) (bs : List Cos
 cost_unwritten f k old bs d e h =
     sym (get_or-map (λ (c : Cost). c.value) bs k d 0 h) ∙ ap (λ l. get_or l k 0) e ∙ first_by_rest f k old 0
 
+-- Costs that were all written in a part of their own.
+pub costs_part : (f : ℕ → ℕ) (n k : ℕ) (bs part : List Cost) → n ≤ length bs → k ≡ n → numbers part ≡ first_by f k (numbers (take n bs)) → numbers (part ++ drop n bs) ≡ first_by f n (numbers bs)
+costs_part f n k bs part h all e =
+    map-append (λ (c : Cost). c.value) part (drop n bs)
+    ∙ ap (λ l. l ++ numbers (drop n bs)) (e ∙ ap (λ i. first_by f i (numbers (take n bs))) all)
+    ∙ ap₂ (λ l r. first_by f n l ++ r) (sym (take-map (λ (c : Cost). c.value) n bs)) (sym (drop-map (λ (c : Cost). c.value) n bs))
+    ∙ first_by_part f n (numbers bs) (omega (arith, length-map bs (λ (c : Cost). c.value)))
+
 -- The bounds that estimates give, as a list of 4,096 costs holds them.
-pub estimates_held : (es old : List ℕ) (bs : List Cost) → length old ≡ 4096 → numbers bs ≡ first_by (λ s. min roof (get_or es s 0)) 4096 old → bounds_of bs ≡ estimate_bounds es
-estimates_held es old bs long e =
+pub estimates_held : (es : List ℕ) (bs : List Cost) → length bs ≡ 4096 → ((k : ℕ) → k < 4096 → get_or (numbers bs) k 0 ≡ min roof (get_or es k 0)) → bounds_of bs ≡ estimate_bounds es
+estimates_held es bs long each =
     let f : ℕ → ℕ = λ s. min roof (get_or es s 0) in
-    let all : numbers bs ≡ map f (range_with_len 0 4096) =
-    e ∙ ap (λ l. map f (range_with_len 0 4096) ++ l) (drop_all 4096 old (omega arith)) ∙ append-nil (map f (range_with_len 0 4096)) in
     fun_ext (λ s. ⊎_elim
-    (λ below. ap (λ l. get_or l s 0) all ∙ get_or-map-range_with_len f 0 4096 s s 0 below (omega arith) ∙ sym (cond-true (ltb s 4096) (f s) 0 (lt-ltb s 4096 below)))
-    (λ past. ap (λ l. get_or l s 0) all ∙ get_or_past (map f (range_with_len 0 4096)) s 0 (omega (arith, length-map-range_with_len f 0 4096)) ∙ sym (cond-false (ltb s 4096) (f s) 0 (le-ltb s 4096 past)))
+    (λ below. each s below ∙ sym (cond-true (ltb s 4096) (f s) 0 (lt-ltb s 4096 below)))
+    (λ past. get_or_past (numbers bs) s 0 (omega (arith, long, length-map bs (λ (c : Cost). c.value))) ∙ sym (cond-false (ltb s 4096) (f s) 0 (le-ltb s 4096 past)))
     (cases_lt s 4096))

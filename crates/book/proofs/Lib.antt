@@ -1,8 +1,10 @@
 pub mod EstimateSteps
 pub mod Firsts
+pub mod MadeArrays
 pub mod OpenedBooks
 pub mod PageParts
 pub mod Changes
+pub mod Going
 pub mod Keeping
 pub mod Leading
 pub mod Planning

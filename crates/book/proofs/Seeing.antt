@@ -1,5 +1,5 @@
 -- What the actions of a state tell of what is to be done.
-use Rattle.std.proofs.Common.{◌≡◌, ℕ, ◌<◌, false, List, length, Some, None, sym, refl, ap, ◌∙◌, subst, ⊎_elim, arith}
+use Rattle.std.proofs.Common.{◌≡◌, ℕ, ◌<◌, false, List, length, Some, None, Option, sym, refl, ap, ◌∙◌, subst, ⊎_elim, arith}
 use Rattle.cost.specs.Costs.{roof}
 use Rattle.model.specs.Meaning.{Action, Barred, Free, State, is_free, task, outcomes, actions, state_at, action_at}
 use Rattle.plan.specs.Bounds.{Bounds, cost_by, action_cost, least_cost, FirstLeast}
@@ -8,7 +8,7 @@ use Rattle.plan.proofs.Opened.{free_shape, has_there}
 use Rattle.book.specs.Looks.{Followed, Exact, Seen}
 use Rattle.book.specs.Pages.{Page, bound_at, planned_at}
 use Rattle.book.specs.declared.pages.looks.Look.{Look}
-use Rattle.book.specs.declared.pages.looks.Look.TheVariants.{Raise, Mark, Enter, Nothing}
+use Rattle.book.specs.declared.pages.looks.Look.TheVariants.{Raise, Mark, Enter}
 use Rattle.book.proofs.Wholes.{few_actions, few_states}
 
 barred_roof : (value : List ℕ → ℕ) (prices : List ℕ) (v : Bounds) (x : Action) → is_free x ≡ false → cost_by value prices v x ≡ roof
@@ -31,12 +31,12 @@ module _ (m : List State) (value : List ℕ → ℕ) (prices : List ℕ) (p : Pa
         let free = free_shape (action_at m s a) first.1 in
         (free, level ∙ sym first.2 ∙ ap (cost_by value prices (bound_at p)) free)
 
-    pub followed_seen : (l : Look) → Followed m p s a l → Seen m value prices p s l
-    followed_seen (Raise cost) never = absurd never
-    followed_seen (Mark b) (same, all) =
-        subst (λ x. Seen m value prices p s (Mark x)) (sym same) (inside, unplanned, (task (action_at m s a), outcomes (action_at m s a), first_exact, all))
-    followed_seen (Enter o) (has, mark) = (a, task (action_at m s a), outcomes (action_at m s a), first_exact, has, mark)
-    followed_seen Nothing never = λ opens there un below low.
+    pub followed_seen : (l : Option Look) → Followed m p s a l → Seen m value prices p s l
+    followed_seen (Some (Raise cost)) never = absurd never
+    followed_seen (Some (Mark b)) (same, all) =
+        subst (λ x. Seen m value prices p s (Some (Mark x))) (sym same) (inside, unplanned, (task (action_at m s a), outcomes (action_at m s a), first_exact, all))
+    followed_seen (Some (Enter o)) (has, mark) = (a, task (action_at m s a), outcomes (action_at m s a), first_exact, has, mark)
+    followed_seen None never = λ opens there un below low.
         ⊎_elim
         (λ many. omega (arith, many, first.0, few_actions m opens s there))
         (λ far. let o = has_there m opens s a (task (action_at m s a)) (outcomes (action_at m s a)) first_exact.0 far.0 far.1 in omega (arith, o, far.2, few_states m opens))

@@ -1,5 +1,5 @@
 -- Pages with an entry for each of 4,096 states.
-use Rattle.std.proofs.Common.{ℕ, ◌<◌, ◌≤◌, true, List, [], ◌∷◌, length, refl, ◌∙◌, subst, inr, ⊎_elim, arith}
+use Rattle.std.proofs.Common.{◌≡◌, ℕ, ◌<◌, ◌≤◌, true, List, [], ◌∷◌, length, refl, ◌∙◌, subst, inr, ⊎_elim, arith}
 use Rattle.std.proofs.lemmas.List.{length-map, length-set}
 use Rattle.std.proofs.lemmas.Bool.{cases_lt}
 use Rattle.cost.specs.declared.amount.Cost.{Cost}
@@ -13,11 +13,11 @@ use Rattle.book.specs.Pages.{Page, Whole, page, bound_at}
 use Rattle.book.specs.declared.pages.Book.{Book}
 
 -- What is written in a book is whole.
-pub page_whole : (b : Book) → Whole (page b)
-page_whole b = record {
-  bounds = length-map b.bounds (λ (c : Cost). c.value) ∙ b.bounds_whole;
-  planned = b.planned_whole;
-  kept = b.kept_whole;
+pub page_whole : (b : Book) → length b.bounds ≡ 4096 → length b.planned ≡ 4096 → length b.kept ≡ 4096 → Whole (page b)
+page_whole b bounds planned kept = record {
+  bounds = length-map b.bounds (λ (c : Cost). c.value) ∙ bounds;
+  planned = planned;
+  kept = kept;
 }
 
 -- A model that opens has no more states than a page has entries.

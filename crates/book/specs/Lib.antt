@@ -3,7 +3,6 @@ pub mod Events
 pub mod Openings
 pub mod Estimates
 pub mod Refusals
-pub mod Limits
 pub mod Looks
 pub mod Searches
 pub mod Trails

@@ -1,8 +1,10 @@
 // What can be wrong with estimates.
-ghost use Rattle.std.specs.Prelude.{◌≡◌};
+ghost use Rattle.std.specs.Prelude.{◌≡◌, Some};
 ghost use Rattle.book.specs.Refusals.{estimate_refusal, estimate_words};
 
 use model::{Refusal, Values};
+use std::error::Error;
+use std::fmt;
 
 // What can be wrong with the estimates that a book is opened with.
 #[derive(Clone, Copy, PartialEq, Eq, Debug)]
@@ -15,6 +17,7 @@ pub enum EstimateFault {
 
 impl EstimateFault {
     // The number of the refusal and the value that it returns.
+    // A method, as that of each fault: one of them, want of memory, has none.
     pub fn refusal(self) -> Refusal
         ensures { result ≡ estimate_refusal self }
     {
@@ -34,3 +37,14 @@ impl EstimateFault {
         }
     }
 }
+
+// A fault prints its cause in words.
+impl fmt::Display for EstimateFault {
+    ghost output = { λ f. Some (estimate_words f) };
+
+    fn fmt<W: fmt::Write>(&self, f: &mut fmt::Formatter<W>) -> fmt::Result {
+        f.write_str(self.words())
+    }
+}
+
+impl Error for EstimateFault {}

@@ -14,8 +14,8 @@ pub mod pages;
 // The way of a search from its start to the state that it is at.
 mod trails;
 
-pub use answers::Answer;
-pub use estimates::faulty_estimates;
+pub use answers::{Found, SearchFault};
+pub use estimates::{check_estimates, faulty_estimates};
 pub use faults::EstimateFault;
-pub use limits::{Allowance, Cap};
+pub use limits::{Allowance, Cap, Within};
 pub use pages::Book;

@@ -1,6 +1,4 @@
 // What a book holds.
-ghost use Rattle.std.specs.Prelude.{◌≡◌, length};
-
 use cost::Cost;
 
 mod entries;
@@ -9,14 +7,15 @@ mod openings;
 mod searches;
 mod writes;
 
+// How many states a book has entries for.
+pub(crate) const STATES: usize = 4096;
+
 // For each of 4,096 states a bound, whether it is planned, and the action that is kept if it is
 // planned and open.
+// Bounds are lent as one list, and an action stays where its mark is dropped: so three arrays.
 #[derive(Drop)]
 pub struct Book {
-    bounds: [Cost; 4096],
-    planned: [bool; 4096],
-    kept: [u8; 4096],
-    ghost bounds_whole: { length bounds ≡ 4096 },
-    ghost planned_whole: { length planned ≡ 4096 },
-    ghost kept_whole: { length kept ≡ 4096 },
+    bounds: [Cost; STATES],
+    planned: [bool; STATES],
+    kept: [u8; STATES],
 }

@@ -1,14 +1,11 @@
 // The way of a search from its start to the state that it is at.
-ghost use Rattle.std.specs.Prelude.{◌≡◌, ◌≤◌, length};
+use arrayvec::ArrayVec;
 
 mod moves;
 
-// The states from the start of a search to the one that it is at, at most 4,096.
+// The start of a search, and the states from there to the one that it is at: at most 4,096 in all.
 #[derive(Drop)]
 pub struct Trail {
-    states: [u16; 4096],
-    depth: usize,
-    ghost whole: { length states ≡ 4096 },
-    ghost some: { 1 ≤ depth },
-    ghost within: { depth ≤ 4096 },
+    start: usize,
+    states: ArrayVec<u16, 4095>,
 }

@@ -10,6 +10,7 @@ pub mod LawfulBelow
 pub mod Leasts
 pub mod Marked
 pub mod Opened
+pub mod Orders
 pub mod PlanFacts
 pub mod PlanShape
 pub mod Lowering

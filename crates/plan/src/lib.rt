@@ -1,6 +1,8 @@
 // Plans and best costs: what actions cost by given bounds, and the facts behind the planner.
 #![tactic(auto)]
 
+// What plans are costed by.
+pub mod problems;
 // What actions cost by given bounds, and the least action cost.
 pub mod actions;
 // Why best costs are not told.
@@ -10,6 +12,6 @@ pub mod rounds;
 // What is true of plans, best costs and bounds.
 pub mod facts;
 
-pub use actions::{Least, action_cost, least_action};
+pub use actions::{Least, bound};
 pub use faults::BestFault;
-pub use rounds::best_costs;
+pub use problems::Problem;

@@ -10,42 +10,59 @@ ghost use Rattle.plan.specs.Bounds.{bounds_of};
 ghost use Rattle.plan.specs.Rounds.{best_fault};
 ghost use Rattle.plan.specs.Sweeps.{Above, Settled, highest, total};
 
-use crate::actions::least_action;
 use crate::faults::BestFault;
-use cost::{Cost, PriceList, Rule};
-use model::{Model, first_fault};
+use crate::problems::Problem;
+use cost::{Cost, Rule};
+use model::{Model, check};
 
-// Writes the best cost of every state to a list, and leaves the rest of the list.
-pub fn best_costs<M: Model, R: Rule>(
-    model: &M,
-    rule: &R,
-    prices: &PriceList,
-    costs: &mut [Cost],
-) -> Result<(), BestFault>
-    ensures fault { result_err result ≡ best_fault (M.Model.meaning model.now) (length costs.old) }
-    ensures best { MatchResult result (λ _. (s : ℕ) → s < length (M.Model.meaning model.now) → Best (M.Model.meaning model.now) R.Rule.value (figures prices.now) s (bounds_of costs.new s)) (λ _. costs.new ≡ costs.old) }
-    ensures rest { drop (length (M.Model.meaning model.now)) costs.new ≡ drop (length (M.Model.meaning model.now)) costs.old }
-{
-    if let Some(fault) = first_fault(model) {
-        return Err(BestFault::Model(fault));
+impl<M: Model, R: Rule> Problem<'_, M, R> {
+    // Writes the best cost of every state to a list, and leaves the rest of the list.
+    pub fn best_costs(&self, costs: &mut [Cost]) -> Result<(), BestFault>
+        ensures fault { result_err result ≡ best_fault (M.Model.meaning self.now.model.now) (length costs.old) }
+        ensures best { MatchResult result (λ _. (s : ℕ) → s < length (M.Model.meaning self.now.model.now) → Best (M.Model.meaning self.now.model.now) R.Rule.value (figures self.now.prices.now) s (bounds_of costs.new s)) (λ _. costs.new ≡ costs.old) }
+        ensures rest { drop (length (M.Model.meaning self.now.model.now)) costs.new ≡ drop (length (M.Model.meaning self.now.model.now)) costs.old }
+    {
+        check(self.model)?;
+        let states = self.model.states();
+        if costs.len() < states {
+            return Err(BestFault::Short);
+        }
+        let known = &mut costs[..states];
+        set_highest(self.model, known);
+        while self.lower_all(known) {}
+        Ok(())
     }
-    if costs.len() < model.states() {
-        return Err(BestFault::Short);
+
+    // One round over the costs of all states: lowers each to its least action cost, and tells whether
+    // any was lowered.
+    fn lower_all(&self, costs: &mut [Cost]) -> bool
+        requires opens { Opens (M.Model.meaning self.now.model.now) }
+        requires all { length costs.old ≡ length (M.Model.meaning self.now.model.now) }
+        requires above { Above (M.Model.meaning self.now.model.now) R.Rule.value (figures self.now.prices.now) (bounds_of costs.old) }
+        ensures above { Above (M.Model.meaning self.now.model.now) R.Rule.value (figures self.now.prices.now) (bounds_of costs.new) }
+        ensures moved { MatchBool result (total (bounds_of costs.new) (length (M.Model.meaning self.now.model.now)) < total (bounds_of costs.old) (length (M.Model.meaning self.now.model.now))) (Settled (M.Model.meaning self.now.model.now) R.Rule.value (figures self.now.prices.now) (bounds_of costs.new) (length (M.Model.meaning self.now.model.now))) }
+    {
+        let mut lowered = false;
+        // A round reads the list of costs while it lowers them, so it goes by the state's number.
+        for state in 0..costs.len() {
+            let least = self.least_action(costs, state).cost;
+            if least < costs[state] {
+                costs[state] = least;
+                lowered = true;
+            }
+        }
+        lowered
     }
-    set_highest(model, costs);
-    while lower_all(model, rule, prices, costs) {}
-    Ok(())
 }
 
-// Sets the end cost at ends and the roof at open states.
+// Sets a cost for each state: the end cost at ends and the roof at open states.
 fn set_highest<M: Model>(model: &M, costs: &mut [Cost])
     requires opens { Opens (M.Model.meaning model.now) }
-    requires room { length (M.Model.meaning model.now) ≤ length costs.old }
-    ensures each { (s : ℕ) → s < length (M.Model.meaning model.now) → bounds_of costs.new s ≡ highest (state_at (M.Model.meaning model.now) s) }
-    ensures rest { drop (length (M.Model.meaning model.now)) costs.new ≡ drop (length (M.Model.meaning model.now)) costs.old }
+    requires all { length costs.old ≡ length (M.Model.meaning model.now) }
+    ensures { (s : ℕ) → s < length (M.Model.meaning model.now) → bounds_of costs.new s ≡ highest (state_at (M.Model.meaning model.now) s) }
 {
-    for state in 0..model.states() {
-        costs[state] = highest_cost(model, state);
+    for (state, cost) in costs.iter_mut().enumerate() {
+        *cost = highest_cost(model, state);
     }
 }
 
@@ -58,24 +75,4 @@ fn highest_cost<M: Model>(model: &M, state: usize) -> Cost
     } else {
         Cost::new(Cost::ROOF)
     }
-}
-
-// One round: lowers each state to its least action cost, and tells whether any was lowered.
-fn lower_all<M: Model, R: Rule>(model: &M, rule: &R, prices: &PriceList, costs: &mut [Cost]) -> bool
-    requires opens { Opens (M.Model.meaning model.now) }
-    requires room { length (M.Model.meaning model.now) ≤ length costs.old }
-    requires above { Above (M.Model.meaning model.now) R.Rule.value (figures prices.now) (bounds_of costs.old) }
-    ensures above { Above (M.Model.meaning model.now) R.Rule.value (figures prices.now) (bounds_of costs.new) }
-    ensures moved { MatchBool result (total (bounds_of costs.new) (length (M.Model.meaning model.now)) < total (bounds_of costs.old) (length (M.Model.meaning model.now))) (Settled (M.Model.meaning model.now) R.Rule.value (figures prices.now) (bounds_of costs.new) (length (M.Model.meaning model.now))) }
-    ensures rest { drop (length (M.Model.meaning model.now)) costs.new ≡ drop (length (M.Model.meaning model.now)) costs.old }
-{
-    let mut lowered = false;
-    for state in 0..model.states() {
-        let least = least_action(model, rule, prices, costs, state).cost;
-        if least.get() < costs[state].get() {
-            costs[state] = least;
-            lowered = true;
-        }
-    }
-    lowered
 }

@@ -1,43 +1,24 @@
-// Making limits from plain numbers, and reading them.
+// Making limits from plain numbers, and reading them, by the names of std's NonZeroU32.
 ghost use Rattle.std.specs.Prelude.{◌≡◌, ◌≤◌};
 ghost use Rattle.std.specs.Option.{SomeIff, option_map};
-ghost use Rattle.book.specs.Limits.{allowance_number, cap_number};
 
-use super::{Allowance, Cap};
+use super::Within;
 
-impl Cap {
-    // The cap of that number; none above 1,000,000,000.
-    pub fn new(value: u32) -> Option<Cap>
-        ensures { SomeIff (option_map cap_number result) (value ≤ 1000000000) value }
+impl<const LEAST: u32, const MOST: u32> Within<LEAST, MOST> {
+    // The limit of that number; none outside LEAST to MOST. An error of a `TryFrom` would tell no more
+    // than `None`.
+    pub fn new(value: u32) -> Option<Self>
+        ensures { SomeIff (option_map (λ w. w.value) result) ((LEAST ≤ value) × (value ≤ MOST)) value }
     {
-        if value <= 1_000_000_000 {
-            Some(Cap { value })
+        if LEAST <= value && value <= MOST {
+            Some(Within { value })
         } else {
             None
         }
     }
 
     pub fn get(self) -> u32
-        ensures { result ≡ self.value }
-    {
-        self.value
-    }
-}
-
-impl Allowance {
-    // The allowance of that number; none outside 1 to 1,000,000.
-    pub fn new(value: u32) -> Option<Allowance>
-        ensures { SomeIff (option_map allowance_number result) ((1 ≤ value) × (value ≤ 1000000)) value }
-    {
-        if 1 <= value && value <= 1_000_000 {
-            Some(Allowance { value })
-        } else {
-            None
-        }
-    }
-
-    pub fn get(self) -> u32
-        ensures { result ≡ self.value }
+        ensures { result ≡ self.entry.value }
     {
         self.value
     }

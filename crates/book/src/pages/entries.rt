@@ -1,8 +1,8 @@
 // Making a book and reading its entries.
-ghost use Rattle.std.specs.Prelude.{◌≡◌, false, replicate, Some, None};
+ghost use Rattle.std.specs.Prelude.{◌≡◌};
 ghost use Rattle.book.specs.Pages.{page, new_page, bound_at, planned_at, kept_plan};
 
-use super::Book;
+use super::{Book, STATES};
 use cost::Cost;
 
 impl Book {
@@ -11,9 +11,9 @@ impl Book {
         ensures { page result ≡ new_page }
     {
         Book {
-            bounds: [Cost::new(0); 4096],
-            planned: [false; 4096],
-            kept: [0; 4096],
+            bounds: [Cost::new(0); STATES],
+            planned: [false; STATES],
+            kept: [0; STATES],
         }
     }
 
@@ -21,18 +21,14 @@ impl Book {
     pub fn bound(&self, state: usize) -> Cost
         ensures { result.value ≡ bound_at (page self.now) state }
     {
-        if state < 4096 {
-            self.bounds[state]
-        } else {
-            Cost::new(0)
-        }
+        self.bounds.get(state).copied().unwrap_or(Cost::new(0))
     }
 
     // Whether a state is planned.
     pub fn is_planned(&self, state: usize) -> bool
         ensures { result ≡ planned_at (page self.now) state }
     {
-        state < 4096 && self.planned[state]
+        self.planned.get(state).copied().unwrap_or(false)
     }
 
     // The action that is kept at a planned state.
@@ -40,7 +36,7 @@ impl Book {
         ensures { result ≡ kept_plan (page self.now) state }
     {
         if self.is_planned(state) {
-            Some(self.kept[state])
+            self.kept.get(state).copied()
         } else {
             None
         }

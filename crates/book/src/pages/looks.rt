@@ -6,10 +6,10 @@ ghost use Rattle.model.specs.Meaning.{action_at, outcomes};
 ghost use Rattle.book.specs.Looks.{Followed, Seen};
 ghost use Rattle.book.specs.Pages.{page, planned_at};
 
-use super::Book;
-use cost::{Cost, PriceList, Rule};
-use model::Model;
-use plan::least_action;
+use super::{Book, STATES};
+use cost::{Cost, Rule};
+use model::{Model, outcomes_of};
+use plan::Problem;
 
 // What is to be done at an unplanned state.
 #[derive(Clone, Copy)]
@@ -20,49 +20,39 @@ pub enum Look {
     Mark(u8),
     // an action costs exactly the bound, and this outcome of it is not planned
     Enter(u16),
-    // nothing, which a sound book never calls for
-    Nothing,
 }
 
 impl Book {
-    // What is to be done at a state.
+    // What is to be done at a state; nothing, which a sound book never calls for, is none.
     pub(crate) fn look<M: Model, R: Rule>(
         &self,
-        model: &M,
-        rule: &R,
-        prices: &PriceList,
+        problem: &Problem<'_, M, R>,
         state: usize,
-    ) -> Look
-        ensures { Seen (M.Model.meaning model.now) R.Rule.value (figures prices.now) (page self.now) state result }
+    ) -> Option<Look>
+        ensures { Seen (M.Model.meaning problem.now.model.now) R.Rule.value (figures problem.now.prices.now) (page self.now) state result }
     {
-        if state >= 4096 || self.is_planned(state) {
-            return Look::Nothing;
+        if state >= STATES || self.is_planned(state) {
+            return None;
         }
-        let least = least_action(model, rule, prices, &self.bounds, state);
+        let least = problem.least_action(&self.bounds, state);
         let bound = self.bound(state);
-        if bound.get() < least.cost.get() {
-            return Look::Raise(least.cost);
+        if bound < least.cost {
+            return Some(Look::Raise(least.cost));
         }
-        if least.cost.get() < bound.get() {
-            return Look::Nothing;
+        if least.cost < bound {
+            return None;
         }
-        match least.action {
-            Some(action) => self.follow(model, state, action),
-            None => Look::Nothing,
-        }
+        let action = least.action?;
+        self.follow(problem.model, state, action)
     }
 
     // What is to be done at a state of which an action costs exactly the bound.
-    fn follow<M: Model>(&self, model: &M, state: usize, action: usize) -> Look
+    fn follow<M: Model>(&self, model: &M, state: usize, action: usize) -> Option<Look>
         ensures { Followed (M.Model.meaning model.now) (page self.now) state action result }
     {
-        if action >= 256 {
-            return Look::Nothing;
-        }
         match self.first_unplanned(model, state, action) {
-            Some(outcome) if outcome < 4096 => Look::Enter(outcome as u16),
-            Some(_) => Look::Nothing,
-            None => Look::Mark(action as u8),
+            Some(outcome) => Some(Look::Enter(u16::try_from(outcome).ok()?)),
+            None => Some(Look::Mark(u8::try_from(action).ok()?)),
         }
     }
 
@@ -70,12 +60,6 @@ impl Book {
     fn first_unplanned<M: Model>(&self, model: &M, state: usize, action: usize) -> Option<usize>
         ensures { MatchOption result (AllByRecursion (λ o. planned_at (page self.now) o ≡ true) (outcomes (action_at (M.Model.meaning model.now) state action))) (λ o. Has (outcomes (action_at (M.Model.meaning model.now) state action)) o × (planned_at (page self.now) o ≡ false)) }
     {
-        for place in 0..model.outcomes(state, action) {
-            let outcome = model.outcome(state, action, place);
-            if !self.is_planned(outcome) {
-                return Some(outcome);
-            }
-        }
-        None
+        outcomes_of(model, state, action).find(|outcome| !self.is_planned(*outcome))
     }
 }

@@ -9,30 +9,27 @@ ghost use Rattle.book.specs.Estimates.{estimate_fault};
 ghost use Rattle.book.specs.Openings.{emptied_page, entries_of, opened_page, opening_bound, unmarked_page};
 ghost use Rattle.book.specs.Pages.{Sound, bound_at, page};
 
-use super::Book;
-use crate::estimates::faulty_estimates;
+use super::{Book, STATES};
+use crate::estimates::{check_estimates, estimate};
 use crate::faults::EstimateFault;
-use cost::{Cost, PriceList, Rule};
+use cost::{Cost, Rule};
 use model::Model;
+use plan::Problem;
 
 impl Book {
     // Opens the book with estimates, or without any: they become the bounds, ends are planned and no
     // open state. Estimates of which something is wrong change nothing.
     pub fn open<M: Model, R: Rule>(
         &mut self,
-        model: &M,
-        rule: &R,
-        prices: &PriceList,
+        problem: &Problem<'_, M, R>,
         estimates: &[u32],
     ) -> Result<(), EstimateFault>
-        ensures fault { result_err result ≡ estimate_fault (M.Model.meaning model.now) R.Rule.value (figures prices.now) estimates.now }
-        ensures after { MatchResult result (λ _. page self.new ≡ opened_page (M.Model.meaning model.now) estimates.now (page self.old)) (λ _. page self.new ≡ page self.old) }
-        ensures sound { OnOk result (Opens (M.Model.meaning model.now) → Sound (M.Model.meaning model.now) R.Rule.value (figures prices.now) (page self.new)) }
+        ensures fault { result_err result ≡ estimate_fault (M.Model.meaning problem.now.model.now) R.Rule.value (figures problem.now.prices.now) estimates.now }
+        ensures after { MatchResult result (λ _. page self.new ≡ opened_page (M.Model.meaning problem.now.model.now) estimates.now (page self.old)) (λ _. page self.new ≡ page self.old) }
+        ensures sound { OnOk result (Opens (M.Model.meaning problem.now.model.now) → Sound (M.Model.meaning problem.now.model.now) R.Rule.value (figures problem.now.prices.now) (page self.new)) }
     {
-        if let Some(fault) = faulty_estimates(model, rule, prices, estimates) {
-            return Err(fault);
-        }
-        self.set_up(model, estimates);
+        check_estimates(problem, estimates)?;
+        self.set_up(problem.model, estimates);
         Ok(())
     }
 
@@ -42,8 +39,11 @@ impl Book {
         ensures { page self.new ≡ opened_page (M.Model.meaning model.now) estimates.now (page self.old) }
     {
         self.drop_marks(model);
-        for state in 0..entries(model) {
-            self.bounds[state] = opening_bound(model, estimates, state);
+        let known = &mut self.bounds[..entries(model)];
+        // `empty` writes other bounds by the same loop: one function for both would be handed the
+        // bound of a state as a closure, and its contract would say in more words what that gives.
+        for (state, bound) in known.iter_mut().enumerate() {
+            *bound = opening_bound(model, estimates, state);
         }
     }
 
@@ -54,9 +54,9 @@ impl Book {
         ensures sound { (value : List ℕ → ℕ) (old new : List ℕ) → Opens (M.Model.meaning model.now) → LawfulBounds (M.Model.meaning model.now) value old (bound_at (page self.old)) → Sound (M.Model.meaning model.now) value new (page self.new) }
     {
         self.drop_marks(model);
-        for state in 0..entries(model) {
-            let bound = emptied_bound(model, state, self.bounds[state]);
-            self.bounds[state] = bound;
+        let known = &mut self.bounds[..entries(model)];
+        for (state, bound) in known.iter_mut().enumerate() {
+            *bound = emptied_bound(model, state, *bound);
         }
     }
 
@@ -65,8 +65,9 @@ impl Book {
         ensures after { page self.new ≡ unmarked_page (M.Model.meaning model.now) (page self.old) }
         ensures sound { (value : List ℕ → ℕ) (prices : List ℕ) → Opens (M.Model.meaning model.now) → LawfulBounds (M.Model.meaning model.now) value prices (bound_at (page self.old)) → Sound (M.Model.meaning model.now) value prices (page self.new) }
     {
-        for state in 0..entries(model) {
-            self.planned[state] = model.is_end(state);
+        let known = &mut self.planned[..entries(model)];
+        for (state, planned) in known.iter_mut().enumerate() {
+            *planned = model.is_end(state);
         }
     }
 }
@@ -75,7 +76,7 @@ impl Book {
 fn entries<M: Model>(model: &M) -> usize
     ensures { result ≡ entries_of (M.Model.meaning model.now) }
 {
-    model.states().min(4096)
+    model.states().min(STATES)
 }
 
 // The bound of a state at opening.
@@ -84,10 +85,8 @@ fn opening_bound<M: Model>(model: &M, estimates: &[u32], state: usize) -> Cost
 {
     if estimates.is_empty() {
         Cost::new(model.end_cost(state))
-    } else if state < estimates.len() {
-        Cost::new(estimates[state])
     } else {
-        Cost::new(0)
+        Cost::new(estimate(estimates, state))
     }
 }
 

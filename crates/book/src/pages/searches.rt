@@ -7,34 +7,36 @@ ghost use Rattle.book.specs.Searches.{Searched, Told};
 
 use super::Book;
 use super::looks::Look;
-use crate::answers::Answer;
+use crate::answers::{Found, SearchFault};
 use crate::limits::{Allowance, Cap};
 use crate::trails::Trail;
-use cost::{PriceList, Rule};
+use cost::Rule;
 use model::Model;
+use plan::Problem;
 
 impl Book {
     // Searches for a best plan from a start: raises bounds and marks states until the start is
     // planned, its bound is above the cap, or the raises that are allowed are used up.
     pub fn search<M: Model, R: Rule>(
         &mut self,
-        model: &M,
-        rule: &R,
-        prices: &PriceList,
+        problem: &Problem<'_, M, R>,
         start: usize,
         cap: Cap,
         allowance: Allowance,
-    ) -> Answer
-        ensures { Opens (M.Model.meaning model.now) → start < length (M.Model.meaning model.now) → Sound (M.Model.meaning model.now) R.Rule.value (figures prices.now) (page self.old) → Searched (M.Model.meaning model.now) R.Rule.value (figures prices.now) start cap.value allowance.value (page self.old) (page self.new) result }
+    ) -> Result<Found, SearchFault>
+        ensures { Opens (M.Model.meaning problem.now.model.now) → start < length (M.Model.meaning problem.now.model.now) → Sound (M.Model.meaning problem.now.model.now) R.Rule.value (figures problem.now.prices.now) (page self.old) → Searched (M.Model.meaning problem.now.model.now) R.Rule.value (figures problem.now.prices.now) start cap.value allowance.value (page self.old) (page self.new) result }
     {
         let mut trail = Trail::new(start);
         let mut raises = 0;
         while self.is_unsettled(start, cap) {
             let state = trail.last();
-            match self.look(model, rule, prices, state) {
+            let look = self
+                .look(problem, state)
+                .ok_or(SearchFault::Stopped(raises))?;
+            match look {
                 Look::Raise(cost) => {
                     if raises == allowance.get() {
-                        return Answer::Stopped(raises);
+                        return Err(SearchFault::Stopped(raises));
                     }
                     self.raise(state, cost);
                     raises += 1;
@@ -45,11 +47,10 @@ impl Book {
                     trail.leave();
                 }
                 Look::Enter(outcome) => {
-                    if !trail.enter(outcome) {
-                        return Answer::Stopped(raises);
-                    }
+                    trail
+                        .enter(outcome)
+                        .map_err(|_| SearchFault::Stopped(raises))?;
                 }
-                Look::Nothing => return Answer::Stopped(raises),
             }
         }
         self.verdict(start, cap, raises)
@@ -63,14 +64,14 @@ impl Book {
     }
 
     // The answer at a start that is planned or has a bound above the cap.
-    fn verdict(&self, start: usize, cap: Cap, raises: u32) -> Answer
+    fn verdict(&self, start: usize, cap: Cap, raises: u32) -> Result<Found, SearchFault>
         ensures { Told (page self.now) start cap.value raises result }
     {
-        let bound = self.bound(start);
-        if cap.get() < bound.get() {
-            Answer::Above(raises)
+        let cost = self.bound(start);
+        if cap.get() < cost.get() {
+            Err(SearchFault::Above(raises))
         } else {
-            Answer::Found(bound, raises)
+            Ok(Found { cost, raises })
         }
     }
 }

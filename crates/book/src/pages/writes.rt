@@ -2,7 +2,7 @@
 ghost use Rattle.std.specs.Prelude.{◌≡◌};
 ghost use Rattle.book.specs.Pages.{page, marked_page, raised_page};
 
-use super::Book;
+use super::{Book, STATES};
 use cost::Cost;
 
 impl Book {
@@ -10,7 +10,8 @@ impl Book {
     pub(crate) fn raise(&mut self, state: usize, cost: Cost)
         ensures { page self.new ≡ raised_page (page self.old) state cost.value }
     {
-        if state < 4096 {
+        // After `get_mut` a proof knows the list's length and no entry, so the place is tested.
+        if state < STATES {
             self.bounds[state] = cost;
         }
     }
@@ -19,7 +20,8 @@ impl Book {
     pub(crate) fn mark(&mut self, state: usize, action: u8)
         ensures { page self.new ≡ marked_page (page self.old) state action }
     {
-        if state < 4096 {
+        // As in `raise`: after `get_mut` a proof knows no entry.
+        if state < STATES {
             self.planned[state] = true;
             self.kept[state] = action;
         }

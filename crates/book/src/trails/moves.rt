@@ -1,18 +1,19 @@
 // Going down a trail and back.
-ghost use Rattle.std.specs.Prelude.{◌≡◌, min, replicate, MatchBool};
+ghost use Rattle.std.specs.Prelude.{◌≡◌, [], length, MatchResult};
 ghost use Rattle.book.specs.Trails.{Entered, Left, last_of};
 
 use super::Trail;
+use arrayvec::{ArrayVec, CapacityError};
 
 impl Trail {
-    // The trail that is at its start; a start past the last entry stays past it.
+    // The trail that is at its start.
     pub fn new(start: usize) -> Trail
-        ensures states { result.states ≡ replicate 4096 (min 65535 start) }
-        ensures depth { result.depth ≡ 1 }
+        ensures start { result.start ≡ start }
+        ensures states { result.states.items ≡ [] }
     {
         Trail {
-            states: [start.min(65_535) as u16; 4096],
-            depth: 1,
+            start,
+            states: ArrayVec::new(),
         }
     }
 
@@ -20,28 +21,22 @@ impl Trail {
     pub fn last(&self) -> usize
         ensures { result ≡ last_of self.now }
     {
-        usize::from(self.states[self.depth - 1])
+        self.states
+            .last()
+            .map_or(self.start, |state| usize::from(*state))
     }
 
-    // Goes on to a state, and tells whether there was room for it.
-    pub fn enter(&mut self, state: u16) -> bool
-        ensures { MatchBool result (Entered self.old state self.new) (self.old.depth ≡ 4096) }
+    // Goes on to a state, if there is room for it.
+    pub fn enter(&mut self, state: u16) -> Result<(), CapacityError<u16>>
+        ensures { MatchResult result (λ _. Entered self.old state self.new) (λ _. length self.old.states.items ≡ 4095) }
     {
-        let depth = self.depth;
-        if depth == 4096 {
-            return false;
-        }
-        self.states[depth] = state;
-        self.depth = depth + 1;
-        true
+        self.states.try_push(state)
     }
 
     // Goes back by one state, and stays at the start.
     pub fn leave(&mut self)
         ensures { Left self.old self.new }
     {
-        if 1 < self.depth {
-            self.depth -= 1;
-        }
+        self.states.pop();
     }
 }

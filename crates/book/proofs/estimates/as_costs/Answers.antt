@@ -1,31 +1,17 @@
-use Rattle.std.proofs.Common.{◌≡◌, ℕ, ◌<◌, min, length, get_or, replicate, refl, ap, ◌∙◌, arith}
-use Rattle.std.proofs.lemmas.List.{length-map, length-set, length-replicate}
+use Rattle.std.proofs.Common.{◌≡◌, min, get_or, ap, ◌∙◌, rules, arith}
+use borrow.Author.Tests.{tests}
+use Rattle.std.proofs.lemmas.List.{get_or-map}
 use Rattle.cost.specs.Costs.{roof}
 use Rattle.cost.specs.declared.amount.Cost.{Cost}
-use Rattle.book.specs.Openings.{first_by}
-use Rattle.book.proofs.Firsts.{numbers, cost_written, estimates_held}
+use Rattle.book.proofs.Firsts.{estimates_held}
+use Rattle.book.proofs.MadeArrays.{each_made}
 use Rattle.book.proofs.estimates.as_costs.Goals as goal
-
-pub loop-state-init : goal.loop-state-init
-loop-state-init c = (length-replicate 4096 c.new-costs.result, refl)
-
-pub loop-state-preserved : goal.loop-state-preserved
-loop-state-preserved c =
-    let x = c.new-costs.result in
-    let old = numbers (replicate 4096 x) in
-    let long : length old ≡ 4096 = length-map (replicate 4096 x) (λ (y : Cost). y.value) ∙ length-replicate 4096 x in
-    let f : ℕ → ℕ = λ s. min roof (get_or c.args.estimates.now s 0) in
-    let k = c.loop-state.state in
-    let there : k < length old = omega arith in (
-      length-set c.loop-state.costs k c.new.result ∙ c.loop-state.invariant.0,
-      cost_written f k old c.loop-state.costs c.new.result c.loop-state.invariant.1 there (c.new.ensures ∙ ap (min roof) c.estimate.ensures),
-    )
 
 pub returns : goal.returns
 returns c =
-    let x = c.new-costs.result in
-    let old = numbers (replicate 4096 x) in
-    let long : length old ≡ 4096 = length-map (replicate 4096 x) (λ (y : Cost). y.value) ∙ length-replicate 4096 x in
-    let f : ℕ → ℕ = λ s. min roof (get_or c.args.estimates.now s 0) in
-    let all : c.loop-state.state ≡ 4096 = omega arith in
-    estimates_held c.args.estimates.now old c.loop-state.costs long (c.loop-state.invariant.1 ∙ ap (λ n. first_by f n old) all)
+    let es = c.args.estimates.now in
+    let ys = c.from_fn.result in
+    let made = each_made _ (λ i (y : Cost). y.value ≡ min roof (get_or es i 0)) _ (λ i y q called. search (rules, tests)) ys 4096 0 c.from_fn.ensures.items.each in
+    estimates_held es ys c.from_fn.ensures.items.long (λ k l.
+    let one = made k (omega arith) (omega arith) in
+    get_or-map (λ (x : Cost). x.value) ys k one.0 0 (omega (arith, c.from_fn.ensures.items.long)) ∙ ap (λ (x : Cost). x.value) (one.1.1 one.0) ∙ one.2)

@@ -4,7 +4,4 @@ use Rattle.book.specs.Openings.{first_by}
 use Rattle.book.proofs.pages.Book.drop_marks.Given as goal
 
 abbrev pub invariant-loop-state : goal.invariant-loop-state
-invariant-loop-state g l =
-    (l.self.bounds ≡ l.initial.self.bounds)
-    × (l.self.planned ≡ first_by (λ s. is_end (state_at (g.M.Model.meaning l.model) s)) l.state l.initial.self.planned)
-    × (l.self.kept ≡ l.initial.self.kept)
+invariant-loop-state g l = l.known ≡ first_by (λ s. is_end (state_at (g.M.Model.meaning l.model) s)) l.state l.initial.known

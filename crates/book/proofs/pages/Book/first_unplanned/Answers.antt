@@ -1,27 +1,21 @@
-use Rattle.std.proofs.Common.{◌≡◌, ◌<◌, ◌≤◌, true, length, sym, ap, ◌∙◌, subst, arith}
-use Rattle.std.specs.List.{ContainsAt as Has, AllByRecursion}
-use Rattle.std.proofs.ByRecursion.{All-more, has_get_or}
-use Rattle.std.proofs.lemmas.List.{take_all}
-use Rattle.model.specs.Meaning.{action_at, outcomes}
+use Rattle.std.proofs.Common.{rules, ◌<◌, arith, true, false, ◌≡◌, List, ℕ, Option, Some, None, length}
+use borrow.Author.Tests.{tests}
+use Rattle.std.specs.List.{AllByRecursion, AllWithin, HoldsAt, ContainsAt as Has}
+use Rattle.std.specs.Option.{MatchOption}
+use Rattle.std.proofs.ByRecursion.{All-from_get_or}
+use Rattle.std.proofs.lemmas.Iterator.{first_from_find}
+use Rattle.std.proofs.lemmas.Iterator.Consumers.{YieldsList-from_first}
 use Rattle.book.specs.Pages.{page, planned_at}
 use Rattle.book.proofs.pages.Book.first_unplanned.Goals as goal
 
-pub returns-then-not-is_planned : goal.returns-then-not-is_planned
-returns-then-not-is_planned g c =
-    let os = outcomes (action_at (g.M.Model.meaning c.args.model.now) c.args.state c.args.action) in
-    let there : c.loop-place.place < length os = omega arith in
-    (subst (Has os) (sym c.outcome-outcome.ensures) (has_get_or os c.loop-place.place 0 there), sym c.if-not-is_planned.ensures)
-
-pub loop-place-preserved : goal.loop-place-preserved
-loop-place-preserved g c =
-    let os = outcomes (action_at (g.M.Model.meaning c.args.model.now) c.args.state c.args.action) in
-    let marks = planned_at (page c.args.self.now) in
-    let there : c.loop-place.place < length os = omega arith in
-    All-more (λ o. marks o ≡ true) os c.loop-place.place 0 there c.loop-place.invariant
-    (ap marks (sym c.outcome-outcome.ensures) ∙ sym c.if-not-is_planned.ensures)
+met_or_all : (Yes No : ℕ → Type 0) (os : List ℕ) (r : Option ℕ) → MatchOption r (AllWithin No os 0 (length os)) (λ x. Yes x × (i : ℕ) × (i < length os) × HoldsAt (λ y. y ≡ x) os i × AllWithin No os 0 i)
+    → MatchOption r (AllByRecursion No os) (λ o. Has os o × Yes o)
+met_or_all Yes No os None h = All-from_get_or No os 0 (λ i l. h i 0 (omega arith) l)
+met_or_all Yes No os (Some o) h = ((h.1, h.2, h.3), h.0)
 
 pub returns : goal.returns
 returns g c =
-    let os = outcomes (action_at (g.M.Model.meaning c.args.model.now) c.args.state c.args.action) in
-    let all : length os ≤ c.loop-place.place = omega arith in
-    subst (AllByRecursion (λ o. planned_at (page c.args.self.now) o ≡ true)) (take_all c.loop-place.place os all) c.loop-place.invariant
+    let marks = planned_at (page c.args.self.now) in
+    met_or_all (λ o. marks o ≡ false) (λ o. marks o ≡ true) _ c.find.result
+    (first_from_find c.find.new.self _ _ (λ o. marks o ≡ false) (λ o. marks o ≡ true) c.find.ensures.ran (YieldsList-from_first (λ o. o) _ _ c.outcomes_of.ensures)
+    (λ o q k. search (rules, tests)) (λ o q k. search (rules, tests)))
