@@ -18,27 +18,18 @@ fn answer(rt: &impl Abort, heap: Global, sheet: &[u8]) -> Result<Result<Size, Sh
     let mut actions = vec![in heap; action(0, 0, 0); 4096]?;
     let mut outcomes = vec![in heap; 0u16; 24576]?;
     let mut prices = PriceList::new();
-    let answer = read(
-        sheet,
-        states.as_mut_slice(),
-        actions.as_mut_slice(),
-        outcomes.as_mut_slice(),
-        &mut prices,
-    );
+    let answer = read(sheet, &mut states, &mut actions, &mut outcomes, &mut prices);
     if let Ok(size) = answer {
         let count = size.states;
         assert!(rt; count <= states.len());
         let model = TableModel {
-            states: &states.as_slice()[0..count],
-            actions: actions.as_slice(),
-            outcomes: outcomes.as_slice(),
+            states: &states[0..count],
+            actions: &actions,
+            outcomes: &outcomes,
         };
         let mut bytes = vec![in heap; BYTE; 65_536]?;
-        assert_eq!(rt;
-            write(&model, &prices, bytes.as_mut_slice()),
-            Ok(sheet.len())
-        );
-        assert_eq!(rt; bytes.as_slice().get(0..sheet.len()), Some(sheet));
+        assert_eq!(rt; write(&model, &prices, &mut bytes), Ok(sheet.len()));
+        assert_eq!(rt; bytes.get(0..sheet.len()), Some(sheet));
     }
     Ok(answer)
 }
@@ -48,42 +39,36 @@ fn a_sheet_has_at_most_65536_bytes(rt: HostRuntime) -> Result<(), Fail> {
     let longest = repeated(rt.alloc(), &[1, 0, 2, 13, 121], &STATE, 3449)?;
     assert_eq!(rt; longest.len(), 65_536);
     assert_eq!(rt;
-        answer(&rt, rt.alloc(), longest.as_slice())?,
+        answer(&rt, rt.alloc(), &longest)?,
         Ok(size(3449, 3449, 20_694))
     );
-    let one_more = repeated(rt.alloc(), longest.as_slice(), &[4], 1)?;
+    let one_more = repeated(rt.alloc(), &longest, &[4], 1)?;
     assert_eq!(rt;
-        answer(&rt, rt.alloc(), one_more.as_slice())?,
+        answer(&rt, rt.alloc(), &one_more)?,
         Err(SheetFault::Ends(65_536))
     );
     let right_fields = repeated(rt.alloc(), &[1, 0, 2, 13, 122], &STATE, 3450)?;
     assert_eq!(rt;
-        answer(&rt, rt.alloc(), right_fields.as_slice())?,
+        answer(&rt, rt.alloc(), &right_fields)?,
         Err(SheetFault::Ends(65_536))
     );
     let zeros = repeated(rt.alloc(), &[], &[0], 65_537)?;
     assert_eq!(rt;
-        answer(&rt, rt.alloc(), zeros.as_slice())?,
+        answer(&rt, rt.alloc(), &zeros)?,
         Err(SheetFault::Ends(65_536))
     );
     let fewer = repeated(rt.alloc(), &[], &[0], 65_536)?;
-    assert_eq!(rt;
-        answer(&rt, rt.alloc(), fewer.as_slice())?,
-        Err(SheetFault::Tag(0))
-    );
+    assert_eq!(rt; answer(&rt, rt.alloc(), &fewer)?, Err(SheetFault::Tag(0)));
     Ok(())
 }
 
 #[test]
 fn a_sheet_has_at_most_4096_states(rt: HostRuntime) -> Result<(), Fail> {
     let most = repeated(rt.alloc(), &[1, 0, 2, 16, 0], &[4, 0, 0], 4096)?;
-    assert_eq!(rt;
-        answer(&rt, rt.alloc(), most.as_slice())?,
-        Ok(size(4096, 0, 0))
-    );
+    assert_eq!(rt; answer(&rt, rt.alloc(), &most)?, Ok(size(4096, 0, 0)));
     let one_less = repeated(rt.alloc(), &[1, 0, 2, 16, 0], &[4, 0, 0], 4095)?;
     assert_eq!(rt;
-        answer(&rt, rt.alloc(), one_less.as_slice())?,
+        answer(&rt, rt.alloc(), &one_less)?,
         Err(SheetFault::Ends(12_290))
     );
     Ok(())
@@ -104,11 +89,9 @@ fn written(
         outcomes: &[0, 1, 2, 3, 4, 5],
     };
     let mut bytes = vec![in heap; BYTE; length]?;
-    let answer = write(&model, &PriceList::new(), bytes.as_mut_slice());
+    let answer = write(&model, &PriceList::new(), &mut bytes);
     if answer.is_err() {
-        for byte in bytes.as_slice() {
-            assert_eq!(rt; *byte, BYTE);
-        }
+        assert!(rt; bytes.iter().all(|byte| *byte == BYTE));
     }
     Ok(answer)
 }

@@ -30,12 +30,12 @@ fn values_at_their_limits_are_accepted(rt: HostRuntime) -> Result<(), Fail> {
 fn sixteen_actions_and_outcomes_are_accepted(rt: HostRuntime) -> Result<(), Fail> {
     let open = [1, 0, 2, 0, 1, 4, 0, 0];
     let actions = repeated(rt.alloc(), &open, &[5, 0, 3, 63, 0, 0], 16)?;
-    check_round(&rt, actions.as_slice(), size(1, 16, 16))?;
+    check_round(&rt, &actions, size(1, 16, 16))?;
     let wide = [
         1, 0, 2, 0, 16, 4, 0, 0, 5, 0, 33, 63, 0, 0, 0, 1, 0, 2, 0, 3, 0, 4, 0, 5, 0, 6, 0, 7, 0,
         8, 0, 9, 0, 10, 0, 11, 0, 12, 0, 13, 0, 14, 0, 15,
     ];
     let outcomes = repeated(rt.alloc(), &wide, &[4, 0, 0], 15)?;
-    check_round(&rt, outcomes.as_slice(), size(16, 1, 16))?;
+    check_round(&rt, &outcomes, size(16, 1, 16))?;
     Ok(())
 }

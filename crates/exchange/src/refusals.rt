@@ -9,12 +9,11 @@ const STARTS: [usize; 11] = [0, 5, 11, 17, 20, 28, 36, 39, 47, 53, 60];
 #[test]
 fn a_sheet_that_is_cut_ends_in_its_last_field(rt: HostRuntime) -> Result<(), Fail> {
     for length in 0..63 {
-        let mut place = 0;
-        for start in STARTS {
-            if start <= length {
-                place = start;
-            }
-        }
+        let place = STARTS
+            .into_iter()
+            .filter(|start| *start <= length)
+            .last()
+            .unwrap_or(0);
         check_refused(&rt, &EXAMPLE[0..length], SheetFault::Ends(place))?;
     }
     Ok(())
@@ -114,19 +113,19 @@ fn a_field_is_whole(rt: HostRuntime) -> Result<(), Fail> {
 #[test]
 fn long_fields_and_many_actions_are_refused(rt: HostRuntime) -> Result<(), Fail> {
     let one_more = repeated(rt.alloc(), &EXAMPLE, &[0], 1)?;
-    check_refused(&rt, one_more.as_slice(), SheetFault::Ends(63))?;
+    check_refused(&rt, &one_more, SheetFault::Ends(63))?;
     let once_more = repeated(rt.alloc(), &EXAMPLE, &EXAMPLE, 1)?;
-    check_refused(&rt, once_more.as_slice(), SheetFault::Tag(63))?;
+    check_refused(&rt, &once_more, SheetFault::Tag(63))?;
     let long_count = repeated(rt.alloc(), &[1, 1, 2], &[0, 1], 129)?;
-    check_refused(&rt, long_count.as_slice(), SheetFault::Length(0))?;
+    check_refused(&rt, &long_count, SheetFault::Length(0))?;
     let open = [1, 0, 2, 0, 1, 4, 0, 0, 5, 0, 35];
     let many_outcomes = repeated(rt.alloc(), &open, &[0], 35)?;
-    check_refused(&rt, many_outcomes.as_slice(), SheetFault::Length(8))?;
+    check_refused(&rt, &many_outcomes, SheetFault::Length(8))?;
     let many_actions = repeated(
         rt.alloc(),
         &[1, 0, 2, 0, 1, 4, 0, 0],
         &[5, 0, 3, 0, 0, 0],
         17,
     )?;
-    check_refused(&rt, many_actions.as_slice(), SheetFault::Tag(104))
+    check_refused(&rt, &many_actions, SheetFault::Tag(104))
 }

@@ -9,18 +9,19 @@ use writer::write;
 // What reading the ring leaves in tables.
 fn ring_tables() -> Tables {
     let mut tables = Tables::unread();
-    tables.states[0] = StateRow::Open(span(0, 2));
-    tables.states[1] = StateRow::Open(span(2, 2));
-    tables.states[2] = StateRow::End(4);
-    tables.states[3] = StateRow::Open(span(4, 0));
-    tables.actions[0] = action(0, 0, 2);
-    tables.actions[1] = action(1, 2, 2);
-    tables.actions[2] = action(0, 4, 2);
-    tables.actions[3] = action(2, 6, 1);
-    let outcomes = [0, 2, 1, 2, 0, 2, 2];
-    for place in 0..7 {
-        tables.outcomes[place] = outcomes[place];
-    }
+    tables.states[..4].copy_from_slice(&[
+        StateRow::Open(span(0, 2)),
+        StateRow::Open(span(2, 2)),
+        StateRow::End(4),
+        StateRow::Open(span(4, 0)),
+    ]);
+    tables.actions[..4].copy_from_slice(&[
+        action(0, 0, 2),
+        action(1, 2, 2),
+        action(0, 4, 2),
+        action(2, 6, 1),
+    ]);
+    tables.outcomes[..7].copy_from_slice(&[0, 2, 1, 2, 0, 2, 2]);
     tables.prices = ring_prices();
     tables
 }

@@ -1,4 +1,5 @@
-// A sheet that the tests share, and tables to read into.
+// A sheet that the tests share, and tables to read into. Rows and prices are made here once more, since
+// tests of one crate cannot be lent to another.
 use cost::{Price, PriceList, Task};
 use reader::{Size, read};
 use sheet::SheetFault;
@@ -54,11 +55,11 @@ pub(crate) fn size(states: usize, actions: usize, outcomes: usize) -> Size {
 // The list of these prices.
 pub(crate) fn priced(figures: &[u16; 64]) -> PriceList {
     let mut prices = PriceList::new();
-    for number in 0..64u8 {
-        if let Some(task) = Task::new(number) {
-            if let Some(price) = Price::new(figures[usize::from(number)]) {
-                prices.set(task, price);
-            }
+    for (number, figure) in (0..64).zip(figures) {
+        if let Some(task) = Task::new(number)
+            && let Some(price) = Price::new(*figure)
+        {
+            prices.set(task, price);
         }
     }
     prices
@@ -67,10 +68,8 @@ pub(crate) fn priced(figures: &[u16; 64]) -> PriceList {
 // All prices of a list.
 pub(crate) fn figures(prices: &PriceList) -> [u16; 64] {
     let mut figures = [0; 64];
-    for number in 0..64u8 {
-        if let Some(task) = Task::new(number) {
-            figures[usize::from(number)] = prices.price(task).get();
-        }
+    for (figure, price) in figures.iter_mut().zip(prices.as_slice()) {
+        *figure = price.get();
     }
     figures
 }
@@ -139,9 +138,7 @@ pub(crate) fn check_round(rt: &impl Abort, sheet: &[u8], size: Size) -> Result<T
     let mut bytes = [BYTE; 200];
     assert_eq!(rt; tables.write(size.states, &mut bytes), Ok(sheet.len()));
     assert_eq!(rt; bytes.get(0..sheet.len()), Some(sheet));
-    for place in sheet.len()..200 {
-        assert_eq!(rt; bytes[place], BYTE);
-    }
+    assert!(rt; bytes.iter().skip(sheet.len()).all(|byte| *byte == BYTE));
     Ok(tables)
 }
 

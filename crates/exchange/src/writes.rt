@@ -49,7 +49,7 @@ fn a_faulty_model_is_not_written(rt: HostRuntime) -> Result<(), Fail> {
 #[test]
 fn a_list_of_bytes_is_long_enough(rt: HostRuntime) -> Result<(), Fail> {
     let mut tables = Tables::unread();
-    assert_eq!(rt; tables.read(&EXAMPLE).is_ok(), true);
+    assert!(rt; tables.read(&EXAMPLE).is_ok());
     let short = Err(WriteFault::Sheet(SheetFault::Short(0)));
     assert_eq!(rt; tables.write(4, &mut []), short);
     let mut few = [BYTE; 62];

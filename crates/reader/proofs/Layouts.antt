@@ -3,7 +3,7 @@ use Rattle.std.proofs.Common.{◌≡◌, ℕ, ◌+◌, true, cond, List, [], ◌
 use Rattle.std.specs.List.{flat_map, AllByRecursion}
 use Rattle.std.proofs.lemmas.List.{take_at, drop_at}
 use Rattle.model.specs.Meaning.{Action, Barred, Free, State, End, Open, is_free, task, actions, outcomes}
-use Rattle.sheet.proofs.Runs.{joined_append}
+use Rattle.std.proofs.lemmas.Grind.{flat_map-append}
 use Rattle.table.specs.Tables.{part, table_action, table_meaning}
 use Rattle.table.specs.declared.tables.ActionRow.{ActionRow}
 use Rattle.table.specs.declared.tables.StateRow.{StateRow}
@@ -91,7 +91,7 @@ module _ (before acts : List ActionRow) (front back : List ℕ) (xs ys : List Ac
   later = action_rows (length (front ++ flat_map outcomes xs)) ys
 
   pub outcomes_split : front ++ (flat_map outcomes (xs ++ ys) ++ back) ≡ front ++ (flat_map outcomes xs ++ (flat_map outcomes ys ++ back))
-  outcomes_split = ap (λ l. front ++ l) (ap (λ l. l ++ back) (joined_append outcomes xs ys) ∙ append_assoc (flat_map outcomes xs) (flat_map outcomes ys) back)
+  outcomes_split = ap (λ l. front ++ l) (ap (λ l. l ++ back) (flat_map-append outcomes xs ys) ∙ append_assoc (flat_map outcomes xs) (flat_map outcomes ys) back)
 
   pub outcomes_later : front ++ (flat_map outcomes (xs ++ ys) ++ back) ≡ (front ++ flat_map outcomes xs) ++ (flat_map outcomes ys ++ back)
   outcomes_later = outcomes_split ∙ sym (append_assoc front (flat_map outcomes xs) (flat_map outcomes ys ++ back))

@@ -5,3 +5,4 @@ pub mod Layouts
 pub mod Places
 pub mod Readings
 pub mod Verdicts
+pub mod Stepping

@@ -4,7 +4,8 @@ ghost use Rattle.sheet.specs.Stages.{stage};
 ghost use Rattle.sheet.specs.Wrongs.{Wrong};
 ghost use Rattle.reader.specs.Reads.{Whole};
 
-use sheet::{Due, Field, SheetFault, split_field};
+use crate::steps::next_field;
+use sheet::{Due, SheetFault};
 
 // The largest number of bytes that a sheet has.
 const MOST_BYTES: usize = 65_536;
@@ -19,18 +20,9 @@ pub(crate) fn check(sheet: &[u8]) -> Result<Due, SheetFault>
     let mut due = Due::start();
     let mut rest = sheet;
     while !rest.is_empty() {
-        let place = sheet.len() - rest.len();
-        let Some(split) = split_field(rest) else {
-            return Err(SheetFault::Ends(place));
-        };
-        let Some(field) = Field::of(split.tag, split.body) else {
-            return Err(SheetFault::Tag(place));
-        };
-        due = match due.accept(field) {
-            Ok(next) => next,
-            Err(cause) => return Err(cause.at(place)),
-        };
-        rest = split.rest;
+        let next = next_field(rest, &due, sheet.len() - rest.len())?;
+        due = next.due;
+        rest = next.rest;
     }
     if due.is_whole() {
         Ok(due)

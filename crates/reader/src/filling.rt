@@ -6,11 +6,13 @@ ghost use Rattle.sheet.specs.Stages.{beginning, Right};
 ghost use Rattle.reader.specs.Puts.{Filled};
 
 use crate::putting::{put_action, put_outcomes, put_price, put_state};
+use crate::steps::next_field;
 use cost::PriceList;
-use sheet::{Due, Field, split_field};
+use sheet::Due;
 use table::{ActionRow, StateRow};
 
-// Writes what the fields of a sheet say, of which nothing is wrong.
+// Writes what the fields of a sheet say, of which nothing is wrong. The lists stay apart, as `read` is
+// handed them one by one.
 pub(crate) fn fill(
     sheet: &[u8],
     states: &mut [StateRow],
@@ -23,18 +25,13 @@ pub(crate) fn fill(
     *prices = PriceList::new();
     let mut due = Due::start();
     let mut rest = sheet;
-    while let Some(split) = split_field(rest) {
-        let Some(field) = Field::of(split.tag, split.body) else {
-            return;
-        };
-        let Ok(next) = due.accept(field) else {
-            return;
-        };
-        put_state(field, &due, states);
-        put_action(field, &due, actions);
-        put_outcomes(field, &due, outcomes);
-        put_price(field, prices);
-        due = next;
-        rest = split.rest;
+    // Nothing is wrong here, so no place is told.
+    while let Ok(next) = next_field(rest, &due, 0) {
+        put_state(next.field, &due, states);
+        put_action(next.field, &due, actions);
+        put_outcomes(next.field, &due, outcomes);
+        put_price(next.field, prices);
+        due = next.due;
+        rest = next.rest;
     }
 }

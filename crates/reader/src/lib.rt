@@ -3,6 +3,8 @@
 
 // How large a model is.
 pub mod sizes;
+// Taking the next field of a sheet.
+mod steps;
 // Checking a whole sheet before anything is written.
 mod checking;
 // Writing what one field says.

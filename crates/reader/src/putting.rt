@@ -6,7 +6,7 @@ ghost use Rattle.sheet.specs.Stages.{Stage, stage};
 ghost use Rattle.reader.specs.Puts.{put_state, put_action, put_outcomes, put_price};
 
 use cost::{Price, PriceList, Task};
-use sheet::bodies::{byte_at, end_cost_in, outcome_in, pair_at, places_in};
+use sheet::bodies::{byte_at, end_cost_in, outcomes_in, pair_at, places_in};
 use sheet::{Due, Field};
 use table::{ActionRow, Span, StateRow};
 
@@ -14,6 +14,7 @@ use table::{ActionRow, Span, StateRow};
 fn put_at<T: Copy>(list: &mut [T], place: usize, entry: T)
     ensures { list.new ≡ slice_set list.old place entry }
 {
+    // After get_mut of a slice a proof knows its length and no entry, so the place is tested.
     if place < list.len() {
         list[place] = entry;
     }
@@ -44,8 +45,7 @@ pub(crate) fn put_state(field: Field<'_>, due: &Due, states: &mut [StateRow])
                 StateRow::Open(one_more),
             );
         }
-        Field::States(_) => {}
-        Field::Price(_) => {}
+        Field::States(_) | Field::Price(_) => {}
     }
 }
 
@@ -70,8 +70,8 @@ pub(crate) fn put_outcomes(field: Field<'_>, due: &Due, outcomes: &mut [u16])
     ensures { outcomes.new ≡ put_outcomes (stage due.now) (shown field.entry) outcomes.old }
 {
     if let Field::Action(body) = field {
-        for place in 0..places_in(body) {
-            put_at(outcomes, due.outcomes + place, outcome_in(body, place));
+        for (place, outcome) in outcomes_in(body).iter().enumerate() {
+            put_at(outcomes, due.outcomes + place, u16::from_be_bytes(*outcome));
         }
     }
 }
@@ -80,11 +80,10 @@ pub(crate) fn put_outcomes(field: Field<'_>, due: &Due, outcomes: &mut [u16])
 pub(crate) fn put_price(field: Field<'_>, prices: &mut PriceList)
     ensures { (d : Stage) → figures prices.new ≡ put_price d (shown field.entry) (figures prices.old) }
 {
-    if let Field::Price(body) = field {
-        if let Some(task) = Task::new(byte_at(body, 0)) {
-            if let Some(price) = Price::new(pair_at(body, 1)) {
-                prices.set(task, price);
-            }
-        }
+    if let Field::Price(body) = field
+        && let Some(task) = Task::new(byte_at(body, 0))
+        && let Some(price) = Price::new(pair_at(body, 1))
+    {
+        prices.set(task, price);
     }
 }

@@ -3,13 +3,13 @@ ghost use Rattle.std.specs.Prelude.{◌≡◌, MatchResult, OnErr};
 ghost use Rattle.cost.specs.Prices.{figures};
 ghost use Rattle.sheet.specs.Stages.{stage};
 ghost use Rattle.sheet.specs.Wrongs.{Wrong};
-ghost use Rattle.reader.specs.Reads.{Measures, Refuses, ReadInto, room_of, stage_size, tables};
+ghost use Rattle.reader.specs.Reads.{Measures, Refuses, ReadInto, room_of, tables};
 
 use crate::checking::check;
 use crate::filling::fill;
 use crate::sizes::Size;
 use cost::PriceList;
-use sheet::{Due, SheetFault};
+use sheet::SheetFault;
 use table::{ActionRow, StateRow};
 
 // How large the model of a sheet is, and so the tables that it can be read into.
@@ -17,11 +17,12 @@ pub fn measure(sheet: &[u8]) -> Result<Size, SheetFault>
     ensures { MatchResult result (Measures sheet.now) (Wrong sheet.now) }
 {
     let due = check(sheet)?;
-    Ok(counted(&due))
+    Ok(Size::from(due))
 }
 
 // Reads a sheet into three tables and a price list. The states are the first rows of their table;
-// entries past what the model has stay as they were. A refused sheet changes nothing.
+// entries past what the model has stay as they were. A refused sheet changes nothing. The lists stay
+// apart: a struct that lends four of them says in its clauses which loan is which, and is no plainer.
 pub fn read(
     sheet: &[u8],
     states: &mut [StateRow],
@@ -43,16 +44,5 @@ pub fn read(
         return Err(SheetFault::Short(2));
     }
     fill(sheet, states, actions, outcomes, prices);
-    Ok(counted(&due))
-}
-
-// What was read, as a size.
-fn counted(due: &Due) -> Size
-    ensures { result ≡ stage_size (stage due.now) }
-{
-    Size {
-        states: due.states,
-        actions: due.actions,
-        outcomes: due.outcomes,
-    }
+    Ok(Size::from(due))
 }

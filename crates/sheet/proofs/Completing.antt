@@ -11,7 +11,8 @@ use Rattle.sheet.specs.Sheets.{state_fields, price_fields, fields, Writable}
 use Rattle.sheet.specs.Stages.{Stage, beginning, after_all, all_read, Right}
 use Rattle.sheet.specs.Wrongs.{Begins}
 use Rattle.sheet.proofs.Contents.{Content, nothing, grow_all, states_of, prices_of, model_in, prices_in, StateRight, Follows}
-use Rattle.sheet.proofs.Runs.{joined_append, all_replicate}
+use Rattle.std.proofs.lemmas.Grind.{flat_map-append}
+use Rattle.sheet.proofs.Runs.{all_replicate}
 use Rattle.sheet.proofs.Growing.{right_follows}
 use Rattle.sheet.proofs.Rewritten.{fields_of, written, price_fields_append, price_fields_ones, right_fields}
 use Rattle.sheet.proofs.Limits.{writable_from}
@@ -25,7 +26,7 @@ price_fields_filled ps n =
 completed : (c : Content) (m rest : List State) → 0 < c.count → m ≡ states_of c ++ rest → length m ≡ c.count → fields m (prices_of c) ≡ fields_of c ++ flat_map state_fields rest
 completed c m rest some e l =
     ap₂ (λ n r. block 1 (two n) ∷ r) l
-    (ap₂ (λ p s. p ++ s) (price_fields_filled c.prices (64 - length c.prices)) (ap (flat_map state_fields) e ∙ joined_append state_fields (states_of c) rest)
+    (ap₂ (λ p s. p ++ s) (price_fields_filled c.prices (64 - length c.prices)) (ap (flat_map state_fields) e ∙ flat_map-append state_fields (states_of c) rest)
     ∙ sym (append_assoc (price_fields 0 c.prices) (flat_map state_fields (states_of c)) (flat_map state_fields rest)))
     ∙ sym (ap (λ l. l ++ flat_map state_fields rest) (written c some))
 

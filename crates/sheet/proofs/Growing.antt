@@ -7,7 +7,8 @@ use Rattle.model.specs.Meaning.{Action, Free, State, End, Open, actions, outcome
 use Rattle.sheet.specs.Blocks.{Block, block}
 use Rattle.sheet.specs.Stages.{Stage, beginning, pair_at, outcomes_in, places_in, end_cost_in, rising, cause_of, after, after_all, Right}
 use Rattle.sheet.proofs.Contents.{Content, nothing, with_action, grow, grow_all, states_of, ActionRight, StateRight, RoomIs, Follows}
-use Rattle.sheet.proofs.Runs.{joined_append, joined_push, all_parts, all_replicate}
+use Rattle.std.proofs.lemmas.Grind.{flat_map-append}
+use Rattle.sheet.proofs.Runs.{joined_push, all_parts, all_replicate}
 use Rattle.sheet.proofs.ByteNumbers.{length_pairs}
 use Rattle.sheet.proofs.FieldKinds.{Kind, states_kind, price_kind, end_kind, open_kind, action_kind, kind_of}
 
@@ -18,7 +19,7 @@ actions_more xs x = ap length (joined_push actions xs x) ∙ length-append (flat
 outcomes_more : (xs : List State) (x : State) → length (flat_map outcomes (flat_map actions (xs ++ x ∷ []))) ≡ length (flat_map outcomes (flat_map actions xs)) + length (flat_map outcomes (actions x))
 outcomes_more xs x =
     ap (λ l. length (flat_map outcomes l)) (joined_push actions xs x)
-    ∙ ap length (joined_append outcomes (flat_map actions xs) (actions x))
+    ∙ ap length (flat_map-append outcomes (flat_map actions xs) (actions x))
     ∙ length-append (flat_map outcomes (flat_map actions xs)) (flat_map outcomes (actions x))
 
 module _ (d : Stage) (c : Content) (b : List ℕ) (f : Follows d c) where

@@ -8,13 +8,12 @@ and_false : (b : Bool) → b && false ≡ false
 and_false true = refl
 and_false false = refl
 
-module _ (n low : ℕ) (os : List ℕ) (k : ℕ) (there : k < length os) where
-  step : rising n low (drop k os) ≡ leb low (get_or os k 0) && (ltb (get_or os k 0) n && rising n (suc (get_or os k 0)) (drop (k + 1) os))
-  step = at_drop_more (rising n low) os k 0 there
+module _ (n low : ℕ) (os : List ℕ) (k : ℕ) (there : k < length os) (o : ℕ) (here : get_or os k 0 ≡ o) where
+  step : rising n low (drop k os) ≡ leb low o && (ltb o n && rising n (suc o) (drop (k + 1) os))
+  step = at_drop_more (rising n low) os k 0 there ∙ ap (λ x. leb low x && (ltb x n && rising n (suc x) (drop (k + 1) os))) here
 
-  pub rise_fails : (get_or os k 0 < low) ⊎ (n ≤ get_or os k 0) → rising n low (drop k os) ≡ false
+  pub rise_fails : (o < low) ⊎ (n ≤ o) → rising n low (drop k os) ≡ false
   rise_fails h =
-      let o = get_or os k 0 in
       let more = rising n (suc o) (drop (k + 1) os) in
       step
       ∙ ⊎_elim
@@ -22,9 +21,8 @@ module _ (n low : ℕ) (os : List ℕ) (k : ℕ) (there : k < length os) where
       (λ l. ap (λ b. leb low o && (b && more)) (le-ltb o n l) ∙ and_false (leb low o))
       h
 
-  pub rise_more : low ≤ get_or os k 0 → get_or os k 0 < n → rising n low (drop k os) ≡ rising n (get_or os k 0 + 1) (drop (k + 1) os)
+  pub rise_more : low ≤ o → o < n → rising n low (drop k os) ≡ rising n (o + 1) (drop (k + 1) os)
   rise_more l s =
-      let o = get_or os k 0 in
       let more = rising n (suc o) (drop (k + 1) os) in
       step
       ∙ ap (λ b. b && (ltb o n && more)) (le-leb low o l)

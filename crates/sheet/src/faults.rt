@@ -1,8 +1,10 @@
 // What can be wrong with a sheet.
-ghost use Rattle.std.specs.Prelude.{◌≡◌};
+ghost use Rattle.std.specs.Prelude.{◌≡◌, Some};
 ghost use Rattle.sheet.specs.Refusals.{sheet_refusal, sheet_words, fault_at};
 
 use model::{Refusal, Values};
+use std::error::Error;
+use std::fmt;
 
 // What can be wrong with a field that is whole.
 #[derive(Clone, Copy, PartialEq, Eq, Debug)]
@@ -46,6 +48,7 @@ pub enum SheetFault {
 
 impl SheetFault {
     // The number of the refusal and the value that it returns.
+    // No `From`: `fault.refusal()` reads alike for every fault, one of which has none.
     pub fn refusal(self) -> Refusal
         ensures { result ≡ sheet_refusal self }
     {
@@ -73,3 +76,14 @@ impl SheetFault {
         }
     }
 }
+
+// A fault prints its cause in words.
+impl fmt::Display for SheetFault {
+    ghost output = { λ f. Some (sheet_words f) };
+
+    fn fmt<W: fmt::Write>(&self, f: &mut fmt::Formatter<W>) -> fmt::Result {
+        f.write_str(self.words())
+    }
+}
+
+impl Error for SheetFault {}

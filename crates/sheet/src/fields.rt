@@ -49,11 +49,8 @@ pub fn split_field(bytes: &[u8]) -> Option<Split<'_>>
     let [tag, high, low, rest @ ..] = bytes else {
         return None;
     };
-    let length = usize::from(*high) * 256 + usize::from(*low);
-    if rest.len() < length {
-        return None;
-    }
-    let (body, rest) = rest.split_at(length);
+    let length = usize::from(u16::from_be_bytes([*high, *low]));
+    let (body, rest) = rest.split_at_checked(length)?;
     Some(Split {
         tag: *tag,
         body,

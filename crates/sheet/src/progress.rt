@@ -6,7 +6,7 @@ mod steps;
 // What is known after some fields of a sheet, and so which fields may come next.
 #[derive(Clone, Copy, PartialEq, Eq, Debug)]
 pub struct Due {
-    // the number of states, 0 before it was read
+    // the number of states; 0 before it was read, so that no state is due then
     pub count: usize,
     // the lowest task that may be named next
     pub task: usize,

@@ -1,3 +1,2 @@
-mod ModelLines
 mod Numbering
 pub mod SheetLines

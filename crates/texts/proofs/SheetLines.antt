@@ -1,16 +1,9 @@
 -- The best costs of a sheet's model, as they are told.
-use Rattle.std.proofs.Common.{◌≡◌, ℕ, ◌<◌, ltb, List, map, length, get_or, Some, None, vec_items, vec_len, sym, ap, ◌∙◌, subst, arith}
-use Rattle.std.specs.Option.{option_map}
+use Rattle.std.proofs.Common.{◌≡◌, ℕ, ◌<◌, List, map, length, get_or, vec_items, vec_len, sym, ap, ◌∙◌, subst}
 use Rattle.std.proofs.lemmas.List.{length-map}
-use Rattle.std.proofs.lemmas.Bool.{le-ltb}
 use Rattle.cost.specs.declared.amount.Cost.{Cost}
-use Rattle.model.specs.Firsts.{when, first_of}
 use Rattle.model.specs.Meaning.{State}
-use Rattle.model.specs.Reading.{Opens}
 use Rattle.plan.specs.Bests.{Best}
-use Rattle.plan.specs.Rounds.{best_fault}
-use Rattle.plan.specs.declared.faults.BestFault.{BestFault}
-use Rattle.plan.specs.declared.faults.BestFault.TheVariants.{Model, Short}
 use Rattle.sheet.specs.Sheets.{Stands}
 use Rattle.table.specs.Tables.{table_state}
 use Rattle.transfer.specs.Loads.{loaded_model}
@@ -21,15 +14,6 @@ use Rattle.texts.specs.Texts.{values_of, best_text}
 -- A model that was loaded has as many states as its table has rows.
 pub length_loaded : (l : Loaded) → vec_len l.states ≡ length (loaded_model l)
 length_loaded l = l.states.ok.0 ∙ sym (length-map (vec_items l.states) (table_state (vec_items l.actions) (vec_items l.outcomes)))
-
--- Best costs of a model that opens are told, where the list has an entry for each state.
-pub best_told : (m : List State) (room : ℕ) (f : BestFault) → Opens m → room ≡ length m → Some f ≡ best_fault m room → ⊥
-best_told m room f opens enough wrong =
-    let fits = le-ltb room (length m) (omega arith) in
-    let none : best_fault m room ≡ None =
-    ap (λ x. first_of (option_map Model x) (when (ltb room (length m)) Short)) opens ∙ ap (λ x. when x Short) fits in
-    let z : ◌≡◌ {A = ℕ} 0 1 = cc in
-    omega arith
 
 -- What is told are the best costs.
 pub tells_best : (bytes text : List ℕ) (value : List ℕ → ℕ) (m m' : List State) (ps : List ℕ) (costs told : List Cost) → Stands bytes m ps → m' ≡ m → length costs ≡ length m → ((s : ℕ) → s < length m' → Best m' value ps s (get_or (map (λ (c : Cost). c.value) costs) s 0)) → told ≡ costs → text ≡ best_text 0 (values_of told) → TellsBest bytes value text

@@ -1,6 +1,6 @@
 -- The text in which a model, its prices and its best costs are told.
 use Rattle.std.specs.Prelude.{ℕ, suc, cond, List, [], ◌∷◌, ◌++◌, map, length, codes, decimal, ◌==◌}
-use Rattle.cost.specs.Costs.{roof}
+use Rattle.cost.specs.Costs.{cost_text}
 use Rattle.cost.specs.declared.amount.Cost.{Cost}
 use Rattle.model.specs.Meaning.{Action, Barred, Free, State, End, Open}
 
@@ -38,10 +38,6 @@ show_text m ps =
 -- Costs as plain numbers.
 abbrev pub values_of : List Cost → List ℕ
 values_of costs = map (λ (c : Cost). c.value) costs
-
--- A cost as it is printed.
-abbrev pub cost_text : ℕ → List ℕ
-cost_text c = cond (c == roof) (codes "roof") (decimal c)
 
 -- The line of the cost of the state s.
 abbrev pub state_cost_text : ℕ → ℕ → List ℕ

@@ -11,18 +11,14 @@ pub fn best(heap: Global, costs: &[Cost]) -> Result<String, AllocError>
 {
     let mut lines = String::new(heap);
     for (state, cost) in costs.iter().enumerate() {
-        write_cost(&mut lines, state, cost.get())?;
+        write_cost(&mut lines, state, *cost)?;
     }
     Ok(lines)
 }
 
 // Adds the line of a state's cost.
-fn write_cost(lines: &mut String, state: usize, cost: u32) -> Result<(), AllocError>
-    ensures { OnOk result (string_bytes lines.new ≡ string_bytes lines.old ++ state_cost_text state cost) }
+fn write_cost(lines: &mut String, state: usize, cost: Cost) -> Result<(), AllocError>
+    ensures { OnOk result (string_bytes lines.new ≡ string_bytes lines.old ++ state_cost_text state cost.value) }
 {
-    if cost == Cost::ROOF {
-        writeln!(lines, "{state} roof")
-    } else {
-        writeln!(lines, "{state} {cost}")
-    }
+    writeln!(lines, "{state} {cost}")
 }

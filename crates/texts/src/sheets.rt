@@ -6,7 +6,7 @@ ghost use Rattle.texts.specs.Tellings.{Shows, TellsBest};
 use crate::costs::best;
 use crate::showing::show;
 use cost::{Cost, Rule};
-use plan::best_costs;
+use plan::Problem;
 use std::alloc::Global;
 use transfer::{TransferFault, load};
 
@@ -15,10 +15,7 @@ pub fn show_sheet(heap: Global, sheet: &[u8]) -> Result<String, TransferFault>
     ensures { MatchResult result (λ t. Shows sheet.now (string_bytes t)) (NotLoaded sheet.now) }
 {
     let loaded = load(heap, sheet)?;
-    match show(heap, &loaded.model(), &loaded.prices) {
-        Ok(text) => Ok(text),
-        Err(_) => Err(TransferFault::Memory),
-    }
+    Ok(show(heap, &loaded.model(), &loaded.prices)?)
 }
 
 // The best cost of every state of a sheet's model, at the sheet's prices.
@@ -27,12 +24,12 @@ pub fn best_sheet<R: Rule>(heap: Global, sheet: &[u8], rule: &R) -> Result<Strin
 {
     let loaded = load(heap, sheet)?;
     let mut costs = vec![in heap; Cost::new(0); loaded.states.len()]?;
-    match best_costs(&loaded.model(), rule, &loaded.prices, &mut costs) {
-        Ok(()) => {}
-        Err(_) => unreachable(),
-    }
-    match best(heap, &costs) {
-        Ok(text) => Ok(text),
-        Err(_) => Err(TransferFault::Memory),
-    }
+    let model = loaded.model();
+    let problem = Problem {
+        model: &model,
+        rule,
+        prices: &loaded.prices,
+    };
+    problem.best_costs(&mut costs).unwrap();
+    Ok(best(heap, &costs)?)
 }

@@ -1,12 +1,12 @@
 // The lines of a model and of the prices.
-ghost use Rattle.std.specs.Prelude.{◌≡◌, ◌++◌, IfOk, string_bytes, OnOk, slice_index};
+ghost use Rattle.std.specs.Prelude.{◌≡◌, ◌++◌, IfOk, string_bytes, OnOk};
 ghost use Rattle.cost.specs.Prices.{figures};
 ghost use Rattle.model.specs.Meaning.{state_at, action_at, actions, outcomes};
 ghost use Rattle.table.specs.Tables.{meaning_of};
 ghost use Rattle.texts.specs.Texts.{numbered, price_text, outcomes_text, action_text, state_text, show_text};
 
-use cost::{PriceList, Task};
-use model::Model;
+use cost::PriceList;
+use model::{Model, outcomes_of};
 use std::alloc::{AllocError, Global};
 use table::TableModel;
 
@@ -26,24 +26,14 @@ pub fn show(heap: Global, model: &TableModel<'_>, prices: &PriceList) -> Result<
 fn write_prices(lines: &mut String, prices: &PriceList) -> Result<(), AllocError>
     ensures { OnOk result (string_bytes lines.new ≡ string_bytes lines.old ++ numbered price_text 0 (figures prices.now)) }
 {
-    for task in 0..64 {
-        write_price(lines, task, price_of(prices, task))?;
+    for (task, price) in prices.as_slice().iter().enumerate() {
+        write_price(lines, task, price.get())?;
     }
     Ok(())
 }
 
-// The price of a task as a number; 0 where there is no such task.
-fn price_of(prices: &PriceList, task: u8) -> u16
-    ensures { result ≡ slice_index (figures prices.now) task }
-{
-    match Task::new(task) {
-        Some(task) => prices.price(task).get(),
-        None => 0,
-    }
-}
-
 // Adds the line of a task's price, unless the price is 1.
-fn write_price(lines: &mut String, task: u8, price: u16) -> Result<(), AllocError>
+fn write_price(lines: &mut String, task: usize, price: u16) -> Result<(), AllocError>
     ensures { OnOk result (string_bytes lines.new ≡ string_bytes lines.old ++ price_text task price) }
 {
     if price != 1 {
@@ -112,8 +102,7 @@ fn write_outcomes<M: Model>(
 ) -> Result<(), AllocError>
     ensures { OnOk result (string_bytes lines.new ≡ string_bytes lines.old ++ outcomes_text (outcomes (action_at (M.Model.meaning model.now) state action))) }
 {
-    for place in 0..model.outcomes(state, action) {
-        let outcome = model.outcome(state, action, place);
+    for outcome in outcomes_of(model, state, action) {
         write!(lines, " {outcome}")?;
     }
     writeln!(lines)

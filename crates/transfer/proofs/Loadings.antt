@@ -1,9 +1,7 @@
 -- Tables of the size that a sheet needs hold it.
-use Rattle.std.proofs.Common.{◌≡◌, ℕ, false, ltb, List, ◌++◌, length, take, drop, Some, None, Option, sym, ap, ◌∙◌, subst, arith}
-use Rattle.std.specs.Option.{option_map}
+use Rattle.std.proofs.Common.{◌≡◌, ℕ, List, ◌++◌, length, take, drop, None, sym, ap, ◌∙◌, subst, arith}
 use Rattle.std.proofs.lemmas.List.{take_all, take-append-drop}
-use Rattle.std.proofs.lemmas.Bool.{le-ltb}
-use Rattle.model.specs.Firsts.{when, first_of}
+use Rattle.std.proofs.lemmas.Bool.Decides.{nat_tests}
 use Rattle.model.specs.Meaning.{State}
 use Rattle.sheet.specs.Sheets.{sheet_of, Stands}
 use Rattle.sheet.specs.Wrongs.{Wrong}
@@ -15,9 +13,7 @@ use Rattle.table.specs.declared.tables.ActionRow.{ActionRow}
 use Rattle.table.specs.declared.tables.StateRow.{StateRow}
 use Rattle.reader.specs.Reads.{Measures, size_of, first_short, Refuses, Tables, tables_model, ReadInto}
 use Rattle.reader.specs.declared.sizes.Size.{Size}
-use Rattle.writer.specs.Writing.{write_fault, Written}
-use Rattle.writer.specs.declared.faults.WriteFault.{WriteFault}
-use Rattle.writer.specs.declared.faults.WriteFault.TheVariants.{Model, Sheet}
+use Rattle.writer.specs.Writing.{Written}
 use Rattle.cost.specs.Prices.{figures}
 use Rattle.transfer.specs.Loads.{loaded_model, Loads, NotLoaded, Same, NotCarried, Carries, BytesLeft}
 use Rattle.transfer.specs.declared.faults.TransferFault.{TransferFault}
@@ -26,11 +22,7 @@ use Rattle.transfer.specs.declared.loading.Loaded.{Loaded}
 
 -- No table is too short for its own size.
 none_short : (size : Size) → first_short size size ≡ None
-none_short size =
-    let outs : Option ℕ = when (ltb size.outcomes size.outcomes) 2 in
-    ap (λ x. first_of (when x 0) (first_of (when (ltb size.actions size.actions) 1) outs)) (le-ltb size.states size.states (omega arith))
-    ∙ ap (λ x. first_of (when x 1) outs) (le-ltb size.actions size.actions (omega arith))
-    ∙ ap (λ x. when x 2) (le-ltb size.outcomes size.outcomes (omega arith))
+none_short size = grind (arith, nat_tests)
 
 -- A size, by its three numbers.
 pub sizes_same : (size : Size) (s a o : ℕ) → s ≡ size.states → a ≡ size.actions → o ≡ size.outcomes → record { states = s; actions = a; outcomes = o } ≡ size
@@ -74,25 +66,6 @@ pub not_refused : (bytes : List ℕ) (m : List State) (ps : List ℕ) (room : �
 not_refused bytes m ps room (transfer.Sheet f) stands wrong = sheet_has_no_fault_lem bytes f m ps wrong stands
 not_refused bytes m ps room (transfer.Write f) stands none = absurd none
 not_refused bytes m ps room transfer.Memory stands h = tt
-
--- Writing what was read to as many bytes is not refused.
-pub written_back : (bytes : List ℕ) (m : List State) (ps : List ℕ) (room : ℕ) (f : WriteFault) → Stands bytes m ps → room ≡ length bytes → write_fault m ps room ≡ Some f → ⊥
-written_back bytes m ps room f stands enough wrong =
-    let fits : ltb room (length (sheet_of m ps)) ≡ false = le-ltb room (length (sheet_of m ps)) (omega (arith, ap length stands.same)) in
-    let few : ltb 65536 (length (sheet_of m ps)) ≡ false = le-ltb 65536 (length (sheet_of m ps)) (omega (arith, ap length stands.same, stands.few)) in
-    let none : write_fault m ps room ≡ None =
-    ap (λ x. first_of (option_map Model x) (first_of (when (ltb room (length (sheet_of m ps))) (Sheet (Short 0))) (when (ltb 65536 (length (sheet_of m ps))) (Sheet (Ends 65536))))) stands.writable.opens
-    ∙ ap (λ x. first_of (when x (Sheet (Short 0))) (when (ltb 65536 (length (sheet_of m ps))) (Sheet (Ends 65536)))) fits
-    ∙ ap (λ x. when x (Sheet (Ends 65536))) few in
-    let z : ◌≡◌ {A = ℕ} 0 1 = cc in
-    omega arith
-
--- What was read and written to as many bytes has the old bytes.
-pub copied : (bytes : List ℕ) (m m' : List State) (ps : List ℕ) (n : ℕ) (old new : List ℕ) → Stands bytes m ps → m' ≡ m → Written m' ps n old new → length new ≡ length bytes → new ≡ bytes
-copied bytes m m' ps n old new stands same written long =
-    let sheet : sheet_of m' ps ≡ bytes = ap (λ l. sheet_of l ps) same ∙ sym stands.same in
-    let n_is : n ≡ length bytes = written.count ∙ ap length sheet in
-    sym (take_all n new (omega arith)) ∙ written.stands.same ∙ sheet
 
 -- Bytes to which a model was written begin with its sheet.
 pub carried : (m : List State) (ps : List ℕ) (n : ℕ) (old new : List ℕ) → Written m ps n old new → Carries m ps old new

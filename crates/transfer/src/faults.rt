@@ -1,11 +1,13 @@
 // Why nothing is carried over.
-ghost use Rattle.std.specs.Prelude.{◌≡◌};
+ghost use Rattle.std.specs.Prelude.{◌≡◌, Some};
 ghost use Rattle.transfer.specs.Refusals.{transfer_refusal, transfer_words};
 ghost use Rattle.transfer.specs.declared.faults.TransferFault.TheVariants.{Sheet, Write, Memory};
 
 use model::Refusal;
 use sheet::SheetFault;
 use std::alloc::AllocError;
+use std::error::Error;
+use std::fmt;
 use writer::WriteFault;
 
 // Why nothing is carried over.
@@ -43,6 +45,18 @@ impl TransferFault {
     }
 }
 
+// A fault prints its cause in words.
+impl fmt::Display for TransferFault {
+    ghost output = { λ f. Some (transfer_words f) };
+
+    fn fmt<W: fmt::Write>(&self, f: &mut fmt::Formatter<W>) -> fmt::Result {
+        f.write_str(self.words())
+    }
+}
+
+impl Error for TransferFault {}
+
+// A clause says which variant a `?` makes, and a derived `From` has no contract.
 impl From<SheetFault> for TransferFault {
     ghost from_gives = { λ f r. r ≡ Sheet f };
 

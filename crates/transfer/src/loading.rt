@@ -9,9 +9,6 @@ use reader::{measure, read};
 use std::alloc::Global;
 use table::{ActionRow, Span, StateRow, TableModel};
 
-// A row before it is read.
-const NO_ENTRIES: Span = Span { first: 0, count: 0 };
-
 // The tables and the prices of a sheet.
 #[derive(Drop)]
 pub struct Loaded {
@@ -26,10 +23,10 @@ pub fn load(heap: Global, sheet: &[u8]) -> Result<Loaded, TransferFault>
     ensures { MatchResult result (Loads sheet.now) (NotLoaded sheet.now) }
 {
     let size = measure(sheet)?;
-    let mut states = vec![in heap; StateRow::Open(NO_ENTRIES); size.states]?;
+    let mut states = vec![in heap; StateRow::Open(Span::default()); size.states]?;
     let mut actions = vec![in heap; ActionRow {
         task: 0,
-        outcomes: NO_ENTRIES
+        outcomes: Span::default()
     }; size.actions]?;
     let mut outcomes = vec![in heap; 0; size.outcomes]?;
     let mut prices = PriceList::new();
@@ -48,9 +45,9 @@ impl Loaded {
         ensures { meaning_of result ≡ loaded_model self.now }
     {
         TableModel {
-            states: self.states.as_slice(),
-            actions: self.actions.as_slice(),
-            outcomes: self.outcomes.as_slice(),
+            states: &self.states,
+            actions: &self.actions,
+            outcomes: &self.outcomes,
         }
     }
 }

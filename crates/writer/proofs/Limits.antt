@@ -1,11 +1,12 @@
 -- What a model that opens has: few states, actions and outcomes, and outcomes that two bytes hold.
-use Rattle.std.proofs.Common.{◌≡◌, ℕ, ◌<◌, ◌≤◌, true, List, [], length, refl, ap, subst, inl, inr, ⊎_elim, arith}
+use Rattle.std.proofs.Common.{◌≡◌, ℕ, ◌<◌, ◌≤◌, true, List, [], ◌∷◌, ◌++◌, length, get_or, refl, ap, subst, inl, inr, ⊎_elim, ◌∙◌, arith, length-append}
+use Rattle.std.proofs.Math.Seq.{get_or-append_seam}
 use Rattle.std.proofs.lemmas.List.{get_or_past}
 use Rattle.std.proofs.lemmas.Bool.{cases_lt}
 use Rattle.model.specs.Meaning.{Action, Barred, Free, State, Open, is_free, outcomes, actions, state_at, action_at, outcome_at}
 use Rattle.model.specs.Reading.{Opens, Holds, HasState, HasAction, FirstFault}
 use Rattle.model.specs.declared.faults.ModelFault.{ModelFault}
-use Rattle.model.specs.declared.faults.ModelFault.TheVariants.{States, Actions, Outcomes, Outcome}
+use Rattle.model.specs.declared.faults.ModelFault.TheVariants.{States, Outcomes, Outcome}
 use Rattle.model.proofs.ReadingLaw.{first_fault_first}
 
 -- An action with outcomes is free.
@@ -28,13 +29,6 @@ module _ (m : List State) (opens : Opens m) where
       (λ past. absurd (omega (arith, ap (λ x. length (actions x)) (get_or_past m s (Open []) past))))
       (cases_lt s (length m))
 
-  pub actions_few : (s : ℕ) → length (actions (state_at m s)) ≤ 16
-  actions_few s =
-      ⊎_elim
-      (λ many. absurd (no_fault (Actions s) (has_state s (omega arith), many)))
-      (λ few. few)
-      (cases_lt 16 (length (actions (state_at m s))))
-
   -- An action with outcomes is there.
   has_action : (s a : ℕ) → 0 < length (outcomes (action_at m s a)) → HasAction m s a
   has_action s a some =
@@ -56,3 +50,10 @@ module _ (m : List State) (opens : Opens m) where
       (λ less. omega (arith, states_few))
       (λ past. absurd (no_fault (Outcome s a k) ((has_action s a (omega arith), there), inl past)))
       (cases_lt (outcome_at m s a k) (length m))
+
+  -- Each outcome of an action is small.
+  pub outcome_within : (s a : ℕ) (front : List ℕ) (o : ℕ) (rest : List ℕ) → outcomes (action_at m s a) ≡ front ++ o ∷ rest → o < 65536
+  outcome_within s a front o rest is =
+      let many : length front < length (outcomes (action_at m s a)) = omega (arith, ap length is, length-append front (o ∷ rest)) in
+      let here : outcome_at m s a (length front) ≡ o = ap (λ l. get_or l (length front) 0) is ∙ get_or-append_seam front o rest 0 in
+      omega (arith, outcome_small s a (length front) many)

@@ -1,10 +1,12 @@
 // Why no sheet is written.
-ghost use Rattle.std.specs.Prelude.{◌≡◌};
+ghost use Rattle.std.specs.Prelude.{◌≡◌, Some};
 ghost use Rattle.writer.specs.Refusals.{write_refusal, write_words};
 ghost use Rattle.writer.specs.declared.faults.WriteFault.TheVariants.{Model, Sheet};
 
 use model::{ModelFault, Refusal};
 use sheet::SheetFault;
+use std::error::Error;
+use std::fmt;
 
 // Why no sheet is written.
 #[derive(Clone, Copy, PartialEq, Eq, Debug)]
@@ -17,6 +19,7 @@ pub enum WriteFault {
 
 impl WriteFault {
     // The number of the refusal and the values that it returns.
+    // No `From`: `fault.refusal()` reads alike for every fault, one of which has none.
     pub fn refusal(self) -> Refusal
         ensures { result ≡ write_refusal self }
     {
@@ -37,6 +40,18 @@ impl WriteFault {
     }
 }
 
+// A fault prints its cause in words.
+impl fmt::Display for WriteFault {
+    ghost output = { λ f. Some (write_words f) };
+
+    fn fmt<W: fmt::Write>(&self, f: &mut fmt::Formatter<W>) -> fmt::Result {
+        f.write_str(self.words())
+    }
+}
+
+impl Error for WriteFault {}
+
+// A clause says which variant a `?` makes, and a derived `From` has no contract.
 impl From<ModelFault> for WriteFault {
     ghost from_gives = { λ f r. r ≡ Model f };
 

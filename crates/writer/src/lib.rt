@@ -3,7 +3,7 @@
 
 // Why no sheet is written.
 pub mod faults;
-// Writing bytes at a place.
+// Writing bytes one after the other.
 mod places;
 // Writing the fields of prices, states and actions.
 mod fields;

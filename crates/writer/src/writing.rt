@@ -5,14 +5,14 @@ ghost use Rattle.cost.specs.Prices.{figures};
 ghost use Rattle.model.specs.Reading.{Opens};
 ghost use Rattle.table.specs.Tables.{meaning_of};
 ghost use Rattle.sheet.specs.Sheets.{sheet_of};
-ghost use Rattle.writer.specs.Puts.{Puts};
+ghost use Rattle.writer.specs.Puts.{over, Counts};
 ghost use Rattle.writer.specs.Writing.{write_fault, Written};
 
 use crate::faults::WriteFault;
 use crate::fields::{put_prices, put_states};
-use crate::places::{put_head, put_two};
+use crate::places::Page;
 use cost::PriceList;
-use model::{Model, first_fault};
+use model::{Model, check};
 use sheet::SheetFault;
 use table::TableModel;
 
@@ -26,9 +26,7 @@ pub fn write(
     ensures fault { result_err result ≡ write_fault (meaning_of model.now) (figures prices.now) (length bytes.old) }
     ensures written { MatchResult result (λ n. Written (meaning_of model.now) (figures prices.now) n bytes.old bytes.new) (λ _. bytes.new ≡ bytes.old) }
 {
-    if let Some(fault) = first_fault(model) {
-        return Err(fault.into());
-    }
+    check(model)?;
     // With no bytes to write to, the sheet is only counted.
     let size = put_sheet(model, prices, &mut []);
     if bytes.len() < size {
@@ -43,10 +41,13 @@ pub fn write(
 // Writes the sheet of a model and its prices as far as there are bytes, and tells how long it is.
 fn put_sheet<M: Model>(model: &M, prices: &PriceList, bytes: &mut [u8]) -> usize
     requires { Opens (M.Model.meaning model.now) }
-    ensures { Puts bytes.old bytes.new 0 result (sheet_of (M.Model.meaning model.now) (figures prices.now)) }
+    ensures written { bytes.new ≡ over bytes.old 0 (sheet_of (M.Model.meaning model.now) (figures prices.now)) }
+    ensures counted { Counts result (length (sheet_of (M.Model.meaning model.now) (figures prices.now))) }
 {
-    let at = put_head(bytes, 0, 1, 2);
-    let at = put_two(bytes, at, model.states());
-    let at = put_prices(prices, bytes, at);
-    put_states(model, bytes, at)
+    let mut page = Page::new(bytes);
+    page.put_head(1, 2);
+    page.put_two(model.states() as u16);
+    put_prices(&mut page, prices);
+    put_states(&mut page, model);
+    page.count()
 }

@@ -4,7 +4,7 @@ ghost use Rattle.sheet.specs.Blocks.{shown, tag_of, body_of};
 ghost use Rattle.sheet.specs.Stages.{stage, beginning, outcomes_in, tag_due, length_right, value_right, rising, cause_of, after, all_read};
 
 use super::Due;
-use crate::bodies::{byte_at, end_cost_in, outcome_in, pair_at, places_in};
+use crate::bodies::{byte_at, end_cost_in, outcomes_in, pair_at, places_in};
 use crate::faults::Cause;
 use crate::fields::Field;
 
@@ -53,8 +53,7 @@ impl Due {
         match field {
             Field::States(_) => self.count == 0,
             Field::Price(_) => 0 < self.count && self.states == 0,
-            Field::End(_) => self.states < self.count,
-            Field::Open(_) => self.states < self.count,
+            Field::End(_) | Field::Open(_) => self.states < self.count,
             Field::Action(_) => 0 < self.room,
         }
     }
@@ -66,12 +65,12 @@ impl Due {
         match field {
             Field::States(body) => {
                 let count = pair_at(body, 0);
-                1 <= count && count <= 4096
+                (1..=4096).contains(&count)
             }
             Field::Price(body) => {
                 let task = byte_at(body, 0);
                 let price = pair_at(body, 1);
-                self.task <= usize::from(task) && task <= 63 && 2 <= price && price <= 10_000
+                self.task <= usize::from(task) && task <= 63 && (2..=10_000).contains(&price)
             }
             Field::End(body) => end_cost_in(body) <= 1_000_000,
             Field::Open(_) => true,
@@ -115,7 +114,7 @@ fn is_right_length(field: Field<'_>) -> bool
         Field::Price(body) => body.len() == 3,
         Field::End(body) => body.len() == 4,
         Field::Open(body) => body.is_empty(),
-        Field::Action(body) => body.len() % 2 == 1 && 3 <= body.len() && body.len() <= 33,
+        Field::Action(body) => body.len() % 2 == 1 && (3..=33).contains(&body.len()),
     }
 }
 
@@ -124,9 +123,9 @@ fn outcomes_rise(body: &[u8], count: usize) -> bool
     ensures { result ≡ rising count 0 (outcomes_in body.now) }
 {
     let mut lowest = 0;
-    for place in 0..places_in(body) {
-        let outcome = usize::from(outcome_in(body, place));
-        if outcome < lowest || count <= outcome {
+    for outcome in outcomes_in(body) {
+        let outcome = usize::from(u16::from_be_bytes(*outcome));
+        if !(lowest..count).contains(&outcome) {
             return false;
         }
         lowest = outcome + 1;

@@ -11,4 +11,4 @@ returns c =
     let b = c.args.sheet.now in
     let whole = c.in_ok-due.ensures in
     let small = bytes_small b c.type_inv.sheet in
-    (model_in whole.blocks, (prices_in whole.blocks, (stood b small d whole, c.counted.ensures ∙ size_counted b small d whole)))
+    (model_in whole.blocks, (prices_in whole.blocks, (stood b small d whole, c.from.ensures ∙ size_counted b small d whole)))

@@ -47,6 +47,6 @@ returns c =
     (record { states_fit = c.if-states-due.false; actions_fit = c.if-actions-due.false; outcomes_fit = c.if-outcomes-due.false })
     (c.fill.ensures whole.blocks whole.same whole.right) in
     record {
-      read = subst (λ s. ReadInto b s old new) (sym c.counted.ensures) into;
+      read = subst (λ s. ReadInto b s old new) (sym c.from.ensures) into;
       refused = tt;
     }

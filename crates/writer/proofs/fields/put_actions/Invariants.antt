@@ -1,4 +1,4 @@
-use Rattle.std.proofs.Common.{◌+◌, ◌*◌, ◌≤◌, take}
+use Rattle.std.proofs.Common.{take}
 use Rattle.std.specs.List.{flat_map}
 use Rattle.model.specs.Meaning.{actions, state_at}
 use Rattle.sheet.specs.Blocks.{blocks_bytes}
@@ -7,6 +7,4 @@ use Rattle.writer.specs.Puts.{Puts}
 use Rattle.writer.proofs.fields.put_actions.Given as goal
 
 abbrev pub invariant-loop-action : goal.invariant-loop-action
-invariant-loop-action g l =
-    Puts l.initial.bytes l.bytes l.initial.at l.at (blocks_bytes (flat_map action_fields (take l.action (actions (state_at (g.M.Model.meaning l.model) l.state)))))
-    × (l.at ≤ l.initial.at + 36 * l.action)
+invariant-loop-action g l = Puts l.initial.page l.page (blocks_bytes (flat_map action_fields (take l.action (actions (state_at (g.M.Model.meaning l.model) l.state)))))

@@ -1,36 +1,22 @@
-use Rattle.std.proofs.Common.{◌<◌, length, ap, arith}
-use Rattle.std.specs.List.{flat_map}
-use Rattle.std.proofs.lemmas.List.{take_all}
-use Rattle.model.specs.Meaning.{outcomes, action_at}
+use Rattle.std.proofs.Common.{◌≤◌, [], ◌∷◌, ◌++◌, length, sym, ap, ◌∙◌, arith, rules}
+use Rattle.std.proofs.lemmas.List.{append_assoc, flat_map_more}
 use Rattle.sheet.specs.Blocks.{two}
-use Rattle.writer.proofs.FieldBytes.{outcomes_turn}
-use Rattle.writer.proofs.Limits.{outcomes_few, outcome_small}
-use Rattle.writer.proofs.Placing.{puts_as}
+use Rattle.writer.specs.Puts.{most}
+use Rattle.writer.proofs.Limits.{outcome_within}
+use Rattle.writer.proofs.Placing.{puts_more, puts_as}
 use Rattle.writer.proofs.fields.put_outcomes.Goals as goal
 
-pub put_two-at-requires : goal.put_two-at-requires
-put_two-at-requires g c =
-    let m = g.M.Model.meaning c.args.model.now in
-    let s = c.args.state in
-    let a = c.args.action in
-    let k = c.loop-place.place in
-    let there : k < length (outcomes (action_at m s a)) = omega arith in record {
-      room = omega (arith, outcomes_few m c.requires.opens s a);
-      small = omega (arith, outcome_small m c.requires.opens s a k there);
-    }
+pub overflow_cast-outcome : goal.overflow_cast-outcome
+overflow_cast-outcome g c =
+    let split = ap (λ l. c.loop-outcome.yielded ++ l) (sym c.in-Some.ensures.steps) ∙ c.loop-outcome.invariant.1 in
+    let small = outcome_within (g.M.Model.meaning c.args.model.now) c.requires c.args.state c.args.action c.loop-outcome.yielded c.in-Some.outcome _ (sym split) in
+    search rules
 
-pub loop-place-preserved : goal.loop-place-preserved
-loop-place-preserved g c =
-    let os = outcomes (action_at (g.M.Model.meaning c.args.model.now) c.args.state c.args.action) in
-    let k = c.loop-place.place in
-    let there : k < length os = omega arith in
-    (outcomes_turn os k c.outcome.result there c.outcome.ensures c.loop-place.invariant.0 c.put_two-at.ensures, omega (arith, c.put_two-at.ensures.place))
-
-pub returns : goal.returns
-returns g c =
-    let m = g.M.Model.meaning c.args.model.now in
-    let os = outcomes (action_at m c.args.state c.args.action) in
-    record {
-      puts = puts_as (ap (flat_map two) (take_all c.loop-place.place os (omega arith))) c.loop-place.invariant.0;
-      few = omega (arith, outcomes_few m c.requires.opens c.args.state c.args.action);
-    }
+pub loop-outcome-preserved : goal.loop-outcome-preserved
+loop-outcome-preserved g c =
+    let done = c.loop-outcome.yielded in
+    let o = c.in-Some.outcome in
+    let small : length c.args.page.now.bytes.now ≤ most = omega arith in (
+      puts_as (flat_map_more two [] done o) (puts_more small c.loop-outcome.invariant.0 c.put_two.ensures),
+      append_assoc done (o ∷ []) _ ∙ ap (λ l. done ++ l) (sym c.in-Some.ensures.steps) ∙ c.loop-outcome.invariant.1,
+    )

@@ -1,4 +1,4 @@
-use Rattle.std.proofs.Common.{◌+◌, ◌*◌, ◌≤◌, take}
+use Rattle.std.proofs.Common.{take}
 use Rattle.std.specs.List.{flat_map}
 use Rattle.sheet.specs.Blocks.{blocks_bytes}
 use Rattle.sheet.specs.Sheets.{state_fields}
@@ -6,6 +6,4 @@ use Rattle.writer.specs.Puts.{Puts}
 use Rattle.writer.proofs.fields.put_states.Given as goal
 
 abbrev pub invariant-loop-state : goal.invariant-loop-state
-invariant-loop-state g l =
-    Puts l.initial.bytes l.bytes l.initial.at l.at (blocks_bytes (flat_map state_fields (take l.state (g.M.Model.meaning l.model))))
-    × (l.at ≤ l.initial.at + 579 * l.state)
+invariant-loop-state g l = Puts l.initial.page l.page (blocks_bytes (flat_map state_fields (take l.state (g.M.Model.meaning l.model))))
