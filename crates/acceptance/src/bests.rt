@@ -1,7 +1,7 @@
 // Best costs on models worked out by hand, and what is refused.
 use cost::{Cost, Largest, Price, PriceList, Rule, Sum, Task};
 use model::{Model, ModelFault, Trim};
-use plan::{BestFault, best_costs};
+use plan::{BestFault, Problem};
 use std::process::Abort;
 use std::test::Fail;
 use table::{ActionRow, Span, StateRow, TableModel};
@@ -35,6 +35,13 @@ const ACTIONS: [ActionRow; 4] = [
 
 const OUTCOMES: [u16; 4] = [0, 2, 1, 2];
 
+// Three tests that tell four candidates apart.
+pub const TESTS: [Test; 3] = [
+    Test { task: 0, set: 3 },
+    Test { task: 1, set: 5 },
+    Test { task: 2, set: 1 },
+];
+
 // Two open states that lead to each other and to an end of cost 4, and one without actions.
 pub fn ring() -> TableModel<'static> {
     TableModel {
@@ -47,25 +54,17 @@ pub fn ring() -> TableModel<'static> {
 // The list with these prices for the first tasks, and 1 for the others.
 pub fn priced(first: &[u16]) -> PriceList {
     let mut prices = PriceList::new();
-    let mut number = 0u8;
-    for value in first {
-        if let Some(task) = Task::new(number) {
-            if let Some(price) = Price::new(*value) {
-                prices.set(task, price);
-            }
+    for (number, value) in (0..64).zip(first) {
+        if let (Some(task), Some(price)) = (Task::new(number), Price::new(*value)) {
+            prices.set(task, price);
         }
-        number = number.saturating_add(1);
     }
     prices
 }
 
 // The cost at a place of a list, and 7 past its end.
 pub fn told(costs: &[Cost], place: usize) -> u32 {
-    if place < costs.len() {
-        costs[place].get()
-    } else {
-        7
-    }
+    costs.get(place).map_or(7, |cost| cost.get())
 }
 
 // The first five costs of a list.
@@ -88,7 +87,12 @@ fn check_four<M: Model, R: Rule>(
     best: (u32, u32, u32, u32),
 ) -> Result<(), Fail> {
     let mut costs = [Cost::new(99); 5];
-    best_costs(model, rule, prices, &mut costs)?;
+    let problem = Problem {
+        model,
+        rule,
+        prices,
+    };
+    problem.best_costs(&mut costs)?;
     assert_eq!(rt; five(&costs), (best.0, best.1, best.2, best.3, 99));
     Ok(())
 }
@@ -117,31 +121,35 @@ fn trim_keeps_best_costs(rt: HostRuntime) -> Result<(), Fail> {
 
 #[test]
 fn valves_have_best_costs(rt: HostRuntime) -> Result<(), Fail> {
-    let tests = [
-        Test { task: 0, set: 3 },
-        Test { task: 1, set: 5 },
-        Test { task: 2, set: 1 },
-    ];
-    let model = match ValveModel::new(&[0; 4], &tests) {
-        Ok(model) => model,
-        Err(_) => return Err(Fail::new("the set-up was refused")),
-    };
-    let prices = priced(&[3, 2, 1]);
+    let model = ValveModel::new(&[0; 4], &TESTS)?;
+    let prices = &priced(&[3, 2, 1]);
     let mut costs = [Cost::new(0); 16];
-    best_costs(&model, &Largest, &prices, &mut costs)?;
+    let largest = Problem {
+        model: &model,
+        rule: &Largest,
+        prices,
+    };
+    largest.best_costs(&mut costs)?;
     assert_eq!(rt; (told(&costs, 15), told(&costs, 10)), (5, 3));
-    best_costs(&model, &Sum, &prices, &mut costs)?;
+    let sum = Problem {
+        model: &model,
+        rule: &Sum,
+        prices,
+    };
+    sum.best_costs(&mut costs)?;
     assert_eq!(rt; (told(&costs, 15), told(&costs, 10)), (6, 3));
     Ok(())
 }
 
 #[test]
 fn a_short_list_is_refused_and_kept(rt: HostRuntime) {
+    let problem = Problem {
+        model: &ring(),
+        rule: &Largest,
+        prices: &PriceList::new(),
+    };
     let mut costs = [Cost::new(99); 3];
-    assert_eq!(rt;
-        best_costs(&ring(), &Largest, &PriceList::new(), &mut costs),
-        Err(BestFault::Short)
-    );
+    assert_eq!(rt; problem.best_costs(&mut costs), Err(BestFault::Short));
     assert_eq!(rt; five(&costs), (99, 99, 99, 7, 7));
 }
 
@@ -152,15 +160,14 @@ fn a_faulty_model_is_refused_by_its_fault(rt: HostRuntime) {
         actions: &[],
         outcomes: &[],
     };
+    let problem = Problem {
+        model: &model,
+        rule: &Sum,
+        prices: &PriceList::new(),
+    };
     let fault = BestFault::Model(ModelFault::EndCost(1));
     let mut costs = [Cost::new(99); 2];
-    assert_eq!(rt;
-        best_costs(&model, &Sum, &PriceList::new(), &mut costs),
-        Err(fault)
-    );
+    assert_eq!(rt; problem.best_costs(&mut costs), Err(fault));
     assert_eq!(rt; five(&costs), (99, 99, 7, 7, 7));
-    assert_eq!(rt;
-        best_costs(&model, &Sum, &PriceList::new(), &mut []),
-        Err(fault)
-    );
+    assert_eq!(rt; problem.best_costs(&mut []), Err(fault));
 }

@@ -1,8 +1,9 @@
 // Best costs against a count of all plans of small models.
-use crate::bests::{priced, ring, told};
+use crate::bests::{priced, ring};
 use cost::{Cost, Largest, Rule, Sum};
-use model::{Model, Trim};
-use plan::best_costs;
+use model::{Model, Trim, outcomes_of};
+use plan::Problem;
+use std::array;
 use std::process::Abort;
 use std::test::Fail;
 use valve::{Test, ValveModel};
@@ -13,25 +14,38 @@ const UNKNOWN: u32 = u32::MAX;
 // The prices of the tasks 0 to 3.
 const PRICES: [u16; 4] = [1, 2, 5, 3];
 
-// How the costs of outcomes are counted as one.
-#[derive(Clone, Copy)]
-pub enum Count {
-    Most,
-    All,
+// How the costs of several outcomes are counted as one, two at a time.
+pub trait Counting {
+    fn both(&self, one: u32, other: u32) -> u32;
+}
+
+// The largest cost.
+pub struct Most;
+
+impl Counting for Most {
+    fn both(&self, one: u32, other: u32) -> u32 {
+        one.max(other)
+    }
+}
+
+// The sum of the costs.
+pub struct All;
+
+impl Counting for All {
+    fn both(&self, one: u32, other: u32) -> u32 {
+        one.saturating_add(other)
+    }
 }
 
 // The cost at a place of a list, where it is known.
 pub fn known_at(known: &[u32; 5], place: usize) -> u32 {
-    if place < 5 { known[place] } else { UNKNOWN }
+    known.get(place).copied().unwrap_or(UNKNOWN)
 }
 
 fn price_of(task: u8) -> u32 {
-    let place = usize::from(task);
-    if place < 4 {
-        u32::from(PRICES[place])
-    } else {
-        1
-    }
+    PRICES
+        .get(usize::from(task))
+        .map_or(1, |price| u32::from(*price))
 }
 
 // The action that a plan, told by its number, gives a state; 3 stands for none.
@@ -44,9 +58,9 @@ fn chosen(plan: usize, state: usize) -> usize {
 }
 
 // What an action costs where the costs of all its outcomes are known.
-fn action_by<M: Model>(
+fn action_by<M: Model, C: Counting>(
     model: &M,
-    count: Count,
+    count: &C,
     known: &[u32; 5],
     state: usize,
     action: usize,
@@ -55,15 +69,12 @@ fn action_by<M: Model>(
         return UNKNOWN;
     }
     let mut counted = 0u32;
-    for place in 0..model.outcomes(state, action) {
-        let cost = known_at(known, model.outcome(state, action, place));
+    for outcome in outcomes_of(model, state, action) {
+        let cost = known_at(known, outcome);
         if cost == UNKNOWN {
             return UNKNOWN;
         }
-        counted = match count {
-            Count::Most => counted.max(cost),
-            Count::All => counted.saturating_add(cost),
-        };
+        counted = count.both(counted, cost);
     }
     price_of(model.task(state, action))
         .saturating_add(counted)
@@ -71,7 +82,13 @@ fn action_by<M: Model>(
 }
 
 // What a plan costs at a state, by the costs that are known.
-fn state_by<M: Model>(model: &M, count: Count, known: &[u32; 5], state: usize, plan: usize) -> u32 {
+fn state_by<M: Model, C: Counting>(
+    model: &M,
+    count: &C,
+    known: &[u32; 5],
+    state: usize,
+    plan: usize,
+) -> u32 {
     if model.is_end(state) {
         model.end_cost(state)
     } else {
@@ -80,16 +97,16 @@ fn state_by<M: Model>(model: &M, count: Count, known: &[u32; 5], state: usize, p
 }
 
 // One sweep over the states, which tells what a plan costs where that is known by now.
-fn swept<M: Model>(model: &M, count: Count, known: &[u32; 5], plan: usize) -> [u32; 5] {
+fn swept<M: Model, C: Counting>(model: &M, count: &C, known: &[u32; 5], plan: usize) -> [u32; 5] {
     let mut next = [UNKNOWN; 5];
-    for state in 0..5 {
-        next[state] = state_by(model, count, known, state, plan);
+    for (state, cost) in next.iter_mut().enumerate() {
+        *cost = state_by(model, count, known, state, plan);
     }
     next
 }
 
 // What a plan costs at each state; unknown where it is not closed or not proper.
-fn plan_costs<M: Model>(model: &M, count: Count, plan: usize) -> [u32; 5] {
+fn plan_costs<M: Model, C: Counting>(model: &M, count: &C, plan: usize) -> [u32; 5] {
     let mut known = [UNKNOWN; 5];
     for _ in 0..6 {
         known = swept(model, count, &known, plan);
@@ -99,15 +116,11 @@ fn plan_costs<M: Model>(model: &M, count: Count, plan: usize) -> [u32; 5] {
 
 // The smaller of two costs at each state.
 fn smaller(a: &[u32; 5], b: &[u32; 5]) -> [u32; 5] {
-    let mut both = [0; 5];
-    for state in 0..5 {
-        both[state] = a[state].min(b[state]);
-    }
-    both
+    array::from_fn(|state| known_at(a, state).min(known_at(b, state)))
 }
 
 // The least that any plan costs at each state, and the roof where none has a cost.
-pub fn least_of_all<M: Model>(model: &M, count: Count) -> [u32; 5] {
+pub fn least_of_all<M: Model, C: Counting>(model: &M, count: &C) -> [u32; 5] {
     let mut least = [Cost::ROOF; 5];
     for plan in 0..1024 {
         least = smaller(&least, &plan_costs(model, count, plan));
@@ -116,32 +129,37 @@ pub fn least_of_all<M: Model>(model: &M, count: Count) -> [u32; 5] {
 }
 
 // Whether the best costs of a model are the least costs of its plans.
-fn check_rule<M: Model, R: Rule>(
+fn check_rule<M: Model, R: Rule, C: Counting>(
     rt: &impl Abort,
     model: &M,
     rule: &R,
-    count: Count,
+    count: &C,
 ) -> Result<(), Fail> {
     let least = least_of_all(model, count);
     let mut costs = [Cost::new(Cost::ROOF); 5];
-    best_costs(model, rule, &priced(&PRICES), &mut costs)?;
-    for state in 0..5 {
-        assert_eq!(rt; told(&costs, state), least[state]);
+    let problem = Problem {
+        model,
+        rule,
+        prices: &priced(&PRICES),
+    };
+    problem.best_costs(&mut costs)?;
+    for (cost, best) in costs.iter().zip(&least) {
+        assert_eq!(rt; cost.get(), *best);
     }
     Ok(())
 }
 
 // The same by both rules.
 pub fn check_model<M: Model>(rt: &impl Abort, model: &M) -> Result<(), Fail> {
-    check_rule(rt, model, &Largest, Count::Most)?;
-    check_rule(rt, model, &Sum, Count::All)
+    check_rule(rt, model, &Largest, &Most)?;
+    check_rule(rt, model, &Sum, &All)
 }
 
 #[test]
 fn the_ring_costs_what_its_plans_cost(rt: HostRuntime) -> Result<(), Fail> {
-    let most = least_of_all(&ring(), Count::Most);
+    let most = least_of_all(&ring(), &Most);
     assert_eq!(rt; (most[0], most[1], most[2]), (11, 9, 4));
-    let all = least_of_all(&ring(), Count::All);
+    let all = least_of_all(&ring(), &All);
     assert_eq!(rt; (all[0], all[1], all[2]), (15, 9, 4));
     assert_eq!(rt; (most[3], most[4]), (Cost::ROOF, Cost::ROOF));
     check_model(&rt, &ring())?;
@@ -155,11 +173,8 @@ fn valves_cost_what_their_plans_cost(rt: HostRuntime) -> Result<(), Fail> {
         Test { task: 0, set: 3 },
         Test { task: 3, set: 2 },
     ];
-    let model = match ValveModel::new(&[6, 8], &tests) {
-        Ok(model) => model,
-        Err(_) => return Err(Fail::new("the set-up was refused")),
-    };
-    let most = least_of_all(&model, Count::Most);
+    let model = ValveModel::new(&[6, 8], &tests)?;
+    let most = least_of_all(&model, &Most);
     assert_eq!(rt; (most[0], most[1], most[2], most[3]), (0, 6, 8, 11));
     check_model(&rt, &model)
 }

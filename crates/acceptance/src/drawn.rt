@@ -1,9 +1,10 @@
 // Small table models drawn from a seed, and their best costs against a count of all plans.
-use crate::brute::{Count, check_model, known_at, least_of_all};
+use crate::brute::{All, Most, check_model, known_at, least_of_all};
+use crate::rows::{action, opened};
 use cost::Cost;
 use model::{Model, Trim, first_fault};
 use std::test::Fail;
-use table::{ActionRow, Span, StateRow, TableModel};
+use table::{ActionRow, StateRow, TableModel};
 
 // A seed from which numbers are drawn.
 #[derive(Clone, Copy)]
@@ -26,7 +27,8 @@ impl Lot {
     }
 }
 
-// Three tables: up to five states, three actions for each, and the lists of all sets of states.
+// Three tables, with no heap so that they can be copied: up to five states, three actions for each,
+// and the lists of all sets of states.
 #[derive(Clone, Copy)]
 pub struct Tables {
     count: usize,
@@ -37,52 +39,42 @@ pub struct Tables {
 
 impl Tables {
     pub fn model(&self) -> TableModel<'_> {
-        let states = if self.count < 5 {
-            &self.states[0..self.count]
-        } else {
-            &self.states[0..5]
-        };
         TableModel {
-            states,
+            states: self.states.get(..self.count).unwrap_or(&self.states),
             actions: &self.actions,
             outcomes: &self.outcomes,
         }
     }
 }
 
-// Writes the states of a set in ascending order; each set has five places of the list.
-fn write_set(lists: &mut [u16; 160], set: usize) {
-    let mut place = set.saturating_mul(5);
-    for state in 0..5u16 {
-        if (set >> state) & 1 == 1 {
-            if place < 160 {
-                lists[place] = state;
-            }
-            place = place.saturating_add(1);
-        }
-    }
-}
-
+// The lists of all sets of states, each in ascending order and with five places.
 fn all_sets() -> [u16; 160] {
     let mut lists = [0; 160];
-    for set in 0..32 {
-        write_set(&mut lists, set);
+    for (set, list) in lists.chunks_exact_mut(5).enumerate() {
+        write_set(list, set);
     }
     lists
+}
+
+// Writes the states of a set in ascending order.
+fn write_set(list: &mut [u16], set: usize) {
+    let states = (0..5u16).filter(|state| (set >> *state) & 1 == 1);
+    for (entry, state) in list.iter_mut().zip(states) {
+        *entry = state;
+    }
 }
 
 // One state in three is an end; the others have up to three actions.
 fn draw_states(lot: &mut Lot) -> [StateRow; 5] {
     let mut states = [StateRow::End(0); 5];
-    let mut first = 0u32;
-    for state in 0..5 {
-        states[state] = if lot.below(3) == 0 {
+    for (row, state) in states.iter_mut().zip(0..5u32) {
+        *row = if lot.below(3) == 0 {
             StateRow::End(lot.below(30))
         } else {
+            let first = state.saturating_mul(3);
             let count = lot.below(4).max(lot.below(4));
-            StateRow::Open(Span { first, count })
+            opened(first, count)
         };
-        first = first.saturating_add(3);
     }
     states
 }
@@ -94,23 +86,13 @@ fn draw_action(lot: &mut Lot, largest: u32) -> ActionRow {
     let other = lot.below(largest).saturating_add(1);
     let both = one & other;
     let set = if both == 0 { one } else { both };
-    ActionRow {
-        task,
-        outcomes: Span {
-            first: set.saturating_mul(5),
-            count: set.count_ones(),
-        },
-    }
+    action(task, set.saturating_mul(5), set.count_ones())
 }
 
 fn draw_actions(lot: &mut Lot, largest: u32) -> [ActionRow; 15] {
-    let none = ActionRow {
-        task: 0,
-        outcomes: Span { first: 0, count: 0 },
-    };
-    let mut actions = [none; 15];
-    for action in 0..15 {
-        actions[action] = draw_action(lot, largest);
+    let mut actions = [action(0, 0, 0); 15];
+    for row in &mut actions {
+        *row = draw_action(lot, largest);
     }
     actions
 }
@@ -148,7 +130,7 @@ fn drawn_models_cost_what_their_plans_cost(rt: HostRuntime) -> Result<(), Fail> 
 
 // How many states of a model are ends, are open with a plan, and are open without one.
 fn kinds<M: Model>(model: &M) -> (u32, u32, u32) {
-    let least = least_of_all(model, Count::Most);
+    let least = least_of_all(model, &Most);
     let mut ends = 0u32;
     let mut planned = 0u32;
     let mut stuck = 0u32;
@@ -170,8 +152,8 @@ fn trim_keeps_what_plans_of_drawn_models_cost(rt: HostRuntime) {
         let tables = draw_tables(seed);
         let under = tables.model();
         assert_eq!(rt;
-            least_of_all(&Trim { under }, Count::All),
-            least_of_all(&under, Count::All)
+            least_of_all(&Trim { under }, &All),
+            least_of_all(&under, &All)
         );
     }
 }

@@ -21,6 +21,9 @@ mod prices;
 // The faults of a model.
 #[cfg(test)]
 mod readings;
+// Rows of tables that the tests share.
+#[cfg(test)]
+mod rows;
 // Searches over books.
 #[cfg(test)]
 mod searches;

@@ -1,28 +1,19 @@
 // Tasks, prices and the price list at their limits.
-use cost::{Price, PriceList, Task};
+use cost::{Cost, Price, PriceList, Task};
 
 // The number of the task of a number.
 fn task(number: u8) -> Option<u8> {
-    match Task::new(number) {
-        Some(task) => Some(task.number()),
-        None => None,
-    }
+    Task::new(number).map(|task| task.number())
 }
 
 // The number of the price of a number, and its cost.
 fn price(value: u16) -> Option<(u16, u32)> {
-    match Price::new(value) {
-        Some(price) => Some((price.get(), price.cost().get())),
-        None => None,
-    }
+    Price::new(value).map(|price| (price.get(), Cost::from(price).get()))
 }
 
 // The price of a task in a list.
 fn listed(prices: &PriceList, number: u8) -> Option<u16> {
-    match Task::new(number) {
-        Some(task) => Some(prices.price(task).get()),
-        None => None,
-    }
+    Task::new(number).map(|task| prices.price(task).get())
 }
 
 #[test]
@@ -45,10 +36,8 @@ fn prices_run_from_1_to_10_000(rt: HostRuntime) {
 #[test]
 fn a_price_is_set_alone(rt: HostRuntime) {
     let mut prices = PriceList::new();
-    if let Some(task) = Task::new(62) {
-        if let Some(price) = Price::new(500) {
-            prices.set(task, price);
-        }
+    if let (Some(task), Some(price)) = (Task::new(62), Price::new(500)) {
+        prices.set(task, price);
     }
     for number in 0..62 {
         assert_eq!(rt; listed(&prices, number), Some(1));

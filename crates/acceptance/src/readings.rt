@@ -1,19 +1,9 @@
 // Each fault of a model at its edge, and of two faults the earlier one.
+use crate::rows::{action, opened};
 use model::{ModelFault, Trim, first_fault};
-use table::{ActionRow, Span, StateRow, TableModel};
+use table::{ActionRow, StateRow, TableModel};
 
 const END: StateRow = StateRow::End(0);
-
-fn opened(first: u32, count: u32) -> StateRow {
-    StateRow::Open(Span { first, count })
-}
-
-fn action(task: u8, first: u32, count: u32) -> ActionRow {
-    ActionRow {
-        task,
-        outcomes: Span { first, count },
-    }
-}
 
 // What is wrong with the model of three tables.
 fn fault<'a>(

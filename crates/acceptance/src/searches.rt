@@ -1,15 +1,15 @@
 // Searches over books: worked examples, and drawn models against their best costs.
-use crate::bests::{priced, ring, told};
+use crate::bests::{TESTS, priced, ring, told};
 use crate::drawn::draw_tables;
-use book::{Allowance, Answer, Book, Cap, EstimateFault};
-use cost::{Cost, Largest, PriceList, Rule, Sum};
+use book::{Allowance, Book, Cap, EstimateFault, SearchFault};
+use cost::{Cost, Largest, Rule, Sum};
 use model::Model;
-use plan::best_costs;
+use plan::Problem;
 use std::process::Abort;
 use std::test::Fail;
-use valve::{Test, ValveModel};
+use valve::ValveModel;
 
-// How a search ends, in numbers.
+// How a search ends, as far as a test compares it: no raises where the start is above the cap.
 #[derive(Clone, Copy, PartialEq, Eq, Debug)]
 enum Ending {
     Cost(u32),
@@ -22,9 +22,7 @@ enum Ending {
 // Searches a book from a start, with a cap and an allowance.
 fn search<M: Model, R: Rule>(
     book: &mut Book,
-    model: &M,
-    rule: &R,
-    prices: &PriceList,
+    problem: &Problem<'_, M, R>,
     (start, cap, allowance): (usize, u32, u32),
 ) -> Ending {
     let Some(cap) = Cap::new(cap) else {
@@ -33,31 +31,36 @@ fn search<M: Model, R: Rule>(
     let Some(allowance) = Allowance::new(allowance) else {
         return Ending::Refused;
     };
-    match book.search(model, rule, prices, start, cap, allowance) {
-        Answer::Found(cost, _) => Ending::Cost(cost.get()),
-        Answer::Above(_) => Ending::Above,
-        Answer::Stopped(raises) => Ending::Stopped(raises),
+    match book.search(problem, start, cap, allowance) {
+        Ok(found) => Ending::Cost(found.cost.get()),
+        Err(SearchFault::Above(_)) => Ending::Above,
+        Err(SearchFault::Stopped(raises)) => Ending::Stopped(raises),
     }
 }
 
 // Searches a new book.
-fn search_new<M: Model, R: Rule>(
-    model: &M,
-    rule: &R,
-    prices: &PriceList,
-    limits: (usize, u32, u32),
-) -> Ending {
+fn search_new<M: Model, R: Rule>(problem: &Problem<'_, M, R>, limits: (usize, u32, u32)) -> Ending {
     let mut book = Book::new();
-    match book.open(model, rule, prices, &[]) {
-        Ok(()) => search(&mut book, model, rule, prices, limits),
+    match book.open(problem, &[]) {
+        Ok(()) => search(&mut book, problem, limits),
         Err(_) => Ending::Refused,
     }
 }
 
 #[test]
 fn a_ring_is_searched(rt: HostRuntime) {
-    let prices = priced(&[1, 2, 5]);
-    let model = ring();
+    let prices = &priced(&[1, 2, 5]);
+    let model = &ring();
+    let largest = Problem {
+        model,
+        rule: &Largest,
+        prices,
+    };
+    let sum = Problem {
+        model,
+        rule: &Sum,
+        prices,
+    };
     let cases = [
         ((0, 11, 1000), Ending::Cost(11)),
         ((0, 10, 1000), Ending::Above),
@@ -68,42 +71,40 @@ fn a_ring_is_searched(rt: HostRuntime) {
         ((0, 11, 1), Ending::Stopped(1)),
     ];
     for (limits, ending) in cases {
-        assert_eq!(rt; search_new(&model, &Largest, &prices, limits), ending);
+        assert_eq!(rt; search_new(&largest, limits), ending);
     }
-    assert_eq!(rt;
-        search_new(&model, &Sum, &prices, (0, 15, 1000)),
-        Ending::Cost(15)
-    );
-    assert_eq!(rt;
-        search_new(&model, &Sum, &prices, (0, 14, 1000)),
-        Ending::Above
-    );
+    assert_eq!(rt; search_new(&sum, (0, 15, 1000)), Ending::Cost(15));
+    assert_eq!(rt; search_new(&sum, (0, 14, 1000)), Ending::Above);
 }
 
 #[test]
 fn valves_are_searched(rt: HostRuntime) -> Result<(), Fail> {
-    let tests = [
-        Test { task: 0, set: 3 },
-        Test { task: 1, set: 5 },
-        Test { task: 2, set: 1 },
-    ];
-    let model = match ValveModel::new(&[0; 4], &tests) {
-        Ok(model) => model,
-        Err(_) => return Err(Fail::new("the set-up was refused")),
-    };
-    let prices = priced(&[3, 2, 1]);
+    let model = ValveModel::new(&[0; 4], &TESTS)?;
+    let prices = &priced(&[3, 2, 1]);
     let limits = (15, 100, 1000);
-    assert_eq!(rt;
-        search_new(&model, &Largest, &prices, limits),
-        Ending::Cost(5)
-    );
-    assert_eq!(rt; search_new(&model, &Sum, &prices, limits), Ending::Cost(6));
+    let largest = Problem {
+        model: &model,
+        rule: &Largest,
+        prices,
+    };
+    let sum = Problem {
+        model: &model,
+        rule: &Sum,
+        prices,
+    };
+    assert_eq!(rt; search_new(&largest, limits), Ending::Cost(5));
+    assert_eq!(rt; search_new(&sum, limits), Ending::Cost(6));
     Ok(())
 }
 
 // What opening a book of the ring with estimates answers.
 fn opened(estimates: &[u32]) -> Result<(), EstimateFault> {
-    Book::new().open(&ring(), &Largest, &priced(&[1, 2, 5]), estimates)
+    let problem = Problem {
+        model: &ring(),
+        rule: &Largest,
+        prices: &priced(&[1, 2, 5]),
+    };
+    Book::new().open(&problem, estimates)
 }
 
 #[test]
@@ -123,11 +124,15 @@ fn estimates_keep_their_rule(rt: HostRuntime) {
 
 // Searches one book from every state of a model, and compares with the best costs.
 fn check_searches<M: Model, R: Rule>(rt: &impl Abort, model: &M, rule: &R) -> Result<(), Fail> {
-    let prices = priced(&[1, 2, 5, 3]);
+    let problem = Problem {
+        model,
+        rule,
+        prices: &priced(&[1, 2, 5, 3]),
+    };
     let mut costs = [Cost::new(0); 5];
-    best_costs(model, rule, &prices, &mut costs)?;
+    problem.best_costs(&mut costs)?;
     let mut book = Book::new();
-    assert_eq!(rt; book.open(model, rule, &prices, &[]).is_ok(), true);
+    assert_eq!(rt; book.open(&problem, &[]).is_ok(), true);
     for start in 0..model.states() {
         let best = told(&costs, start);
         let ending = if best <= 200 {
@@ -135,10 +140,7 @@ fn check_searches<M: Model, R: Rule>(rt: &impl Abort, model: &M, rule: &R) -> Re
         } else {
             Ending::Above
         };
-        assert_eq!(rt;
-            search(&mut book, model, rule, &prices, (start, 200, 100_000)),
-            ending
-        );
+        assert_eq!(rt; search(&mut book, &problem, (start, 200, 100_000)), ending);
     }
     Ok(())
 }

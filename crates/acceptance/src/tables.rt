@@ -1,26 +1,11 @@
 // The table model and Trim over it: what they answer, also about what is not there.
+use crate::rows::{action, opened};
 use model::{Model, Trim};
-use table::{ActionRow, Span, StateRow, TableModel};
-
-fn span(first: u32, count: u32) -> Span {
-    Span { first, count }
-}
-
-fn action(task: u8, first: u32, count: u32) -> ActionRow {
-    ActionRow {
-        task,
-        outcomes: span(first, count),
-    }
-}
+use table::{StateRow, TableModel};
 
 #[test]
 fn a_table_model_answers_from_its_tables(rt: HostRuntime) {
-    let states = [
-        StateRow::Open(span(0, 2)),
-        StateRow::Open(span(2, 2)),
-        StateRow::End(4),
-        StateRow::Open(span(0, 0)),
-    ];
+    let states = [opened(0, 2), opened(2, 2), StateRow::End(4), opened(0, 0)];
     let actions = [
         action(0, 0, 2),
         action(1, 2, 2),
@@ -73,10 +58,10 @@ fn a_table_model_answers_from_its_tables(rt: HostRuntime) {
 #[test]
 fn a_span_that_leaves_its_table_has_no_entries(rt: HostRuntime) {
     let states = [
-        StateRow::Open(span(1, 1)),
-        StateRow::Open(span(1, 2)),
-        StateRow::Open(span(2, 0)),
-        StateRow::Open(span(u32::MAX, u32::MAX)),
+        opened(1, 1),
+        opened(1, 2),
+        opened(2, 0),
+        opened(u32::MAX, u32::MAX),
     ];
     let actions = [action(5, u32::MAX, 1), action(6, 0, 3)];
     let model = TableModel {
@@ -106,11 +91,7 @@ fn a_span_that_leaves_its_table_has_no_entries(rt: HostRuntime) {
 
 #[test]
 fn trim_bars_what_returns_to_its_own_state(rt: HostRuntime) {
-    let states = [
-        StateRow::Open(span(0, 2)),
-        StateRow::Open(span(0, 1)),
-        StateRow::End(7),
-    ];
+    let states = [opened(0, 2), opened(0, 1), StateRow::End(7)];
     let actions = [action(3, 0, 2), action(4, 1, 1)];
     let model = Trim {
         under: TableModel {

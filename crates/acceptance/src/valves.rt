@@ -9,26 +9,17 @@ fn test(task: u8, set: u16) -> Test {
 
 // What a set-up is refused for.
 fn fault(repairs: &[u32], tests: &[Test]) -> Option<ValveFault> {
-    match ValveModel::new(repairs, tests) {
-        Ok(_) => None,
-        Err(fault) => Some(fault),
-    }
+    ValveModel::new(repairs, tests).err()
 }
 
 fn parts(split: Option<Split>) -> Option<(u8, usize, usize)> {
-    match split {
-        Some(split) => Some((split.task, split.smaller, split.larger)),
-        None => None,
-    }
+    split.map(|split| (split.task, split.smaller, split.larger))
 }
 
 #[test]
 fn tests_split_a_set(rt: HostRuntime) -> Result<(), Fail> {
     let tests = [test(0, 3), test(1, 5), test(2, 1)];
-    let model = match ValveModel::new(&[0, 10, 20, 30], &tests) {
-        Ok(model) => model,
-        Err(_) => return Err(Fail::new("the set-up was refused")),
-    };
+    let model = ValveModel::new(&[0, 10, 20, 30], &tests)?;
     assert_eq!(rt; model.states(), 16);
     assert_eq!(rt; parts(model.split(15, 0)), Some((0, 3, 12)));
     assert_eq!(rt; parts(model.split(15, 1)), Some((1, 5, 10)));
@@ -69,10 +60,7 @@ fn tests_split_a_set(rt: HostRuntime) -> Result<(), Fail> {
 
 #[test]
 fn a_set_of_none_or_one_is_an_end(rt: HostRuntime) -> Result<(), Fail> {
-    let model = match ValveModel::new(&[5, 10, 20, 30], &[test(0, 3)]) {
-        Ok(model) => model,
-        Err(_) => return Err(Fail::new("the set-up was refused")),
-    };
+    let model = ValveModel::new(&[5, 10, 20, 30], &[test(0, 3)])?;
     assert!(rt; model.is_end(0) && model.is_end(1) && model.is_end(8) && !model.is_end(3));
     assert!(rt; !model.is_end(16) && !model.is_end(usize::MAX));
     assert_eq!(rt;

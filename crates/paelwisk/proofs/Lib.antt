@@ -1,4 +1,3 @@
-mod FirstWord
 mod LineLaws
 mod OneMore
 mod Replying

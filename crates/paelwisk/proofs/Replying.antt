@@ -2,12 +2,14 @@
 use Rattle.std.proofs.Common.{◌≡◌, ℕ, ◌+◌, ◌<◌, ◌≤◌, List, [], ◌∷◌, ◌++◌, length, get_or, take, drop, replicate, sym, refl, ap, ◌∙◌, subst}
 use Rattle.std.specs.List.{flat_map}
 use Rattle.std.proofs.lemmas.List.{append_assoc, append-nil, drop_all, drop_more, flat_map_more, take_more}
+use Rattle.cost.specs.declared.prices.Price.{Price}
+use Rattle.cost.specs.declared.prices.Task.{Task}
 use Rattle.model.specs.Meaning.{State}
 use Rattle.paelwisk.specs.Asks.{best_text, priced, AllBest, Replies, Replied, AllLines}
 use Rattle.paelwisk.specs.Lines.{lines_about}
 use Rattle.paelwisk.specs.declared.valves.asks.Ask.{Ask}
 use Rattle.paelwisk.specs.declared.valves.asks.Ask.TheVariants as ask
-use Rattle.paelwisk.specs.declared.valves.asks.RuleName.{RuleName}
+use Rattle.paelwisk.specs.declared.names.RuleName.{RuleName}
 
 -- The line of one more state.
 pub bests_more : (r : RuleName) (v : ℕ → ℕ) (ss : List ℕ) (i c : ℕ) (start old new : List ℕ) → i < length ss → old ≡ start ++ flat_map (λ s. best_text r s (v s)) (take i ss) → c ≡ v (get_or ss i 0) → new ≡ old ++ best_text r (get_or ss i 0) c → new ≡ start ++ flat_map (λ s. best_text r s (v s)) (take (i + 1) ss)
@@ -26,7 +28,7 @@ Goes m ss asks i ps told =
     (rest : List ℕ) → Replies m ss ps (drop i asks) rest → Replies m ss (replicate 64 1) asks (told ++ rest)
 
 -- A price more is set.
-pub price_more : (m : List State) (ss : List ℕ) (asks : List Ask) (i : ℕ) (ps told : List ℕ) (a : Ask) (t p : ℕ) → i < length asks → get_or asks i a ≡ ask.Price t p → Goes m ss asks i ps told → Goes m ss asks (i + 1) (priced ps t p) told
+pub price_more : (m : List State) (ss : List ℕ) (asks : List Ask) (i : ℕ) (ps told : List ℕ) (a : Ask) (t : Task) (p : Price) → i < length asks → get_or asks i a ≡ ask.Price t p → Goes m ss asks i ps told → Goes m ss asks (i + 1) (priced ps t p) told
 price_more m ss asks i ps told a t p within is before rest h =
     before rest
     (subst (λ (l : List Ask). Replies m ss ps l rest) (sym (drop_more asks i a within ∙ ap (λ (x : Ask). x ∷ drop (i + 1) asks) is)) h)
@@ -43,7 +45,7 @@ best_more m ss asks i ps told a r v within is best before rest h =
 abbrev pub SoFar : List State → List ℕ → List Ask → ℕ → List ℕ → List ℕ → List ℕ → Type 0
 SoFar m ss asks i ps start now = (told : List ℕ) × (now ≡ start ++ told) × Goes m ss asks i ps told
 
-pub price_told : (m : List State) (ss : List ℕ) (asks : List Ask) (i : ℕ) (ps after start old new : List ℕ) (a : Ask) (t p : ℕ) → i < length asks → get_or asks i a ≡ ask.Price t p → after ≡ priced ps t p → new ≡ old → SoFar m ss asks i ps start old → SoFar m ss asks (i + 1) after start new
+pub price_told : (m : List State) (ss : List ℕ) (asks : List Ask) (i : ℕ) (ps after start old new : List ℕ) (a : Ask) (t : Task) (p : Price) → i < length asks → get_or asks i a ≡ ask.Price t p → after ≡ priced ps t p → new ≡ old → SoFar m ss asks i ps start old → SoFar m ss asks (i + 1) after start new
 price_told m ss asks i ps after start old new a t p within is set same before = (
   before.0,
   same ∙ before.1,

@@ -24,6 +24,7 @@ pub untold_first : (m : List State) (ss : List ℕ) (i : ℕ) (f : Failure) → 
 untold_first m ss i (failure.Word w) within before why = why
 untold_first m ss i (failure.State n) within before why = record { place = i; within = within; before = before; missing = why.2; state = why.0; states = why.1 }
 untold_first m ss i (failure.SetUp v) within before why = why
+untold_first m ss i (failure.Sheet v) within before why = why
 untold_first m ss i failure.Memory within before why = tt
 
 -- The lines of answers are those of the states that they are about.
@@ -42,6 +43,7 @@ not_answered u m (failure.Word w) e sound why = why
 not_answered u m (failure.State n) e sound why =
     (sound, subst (λ (x : List State). FirstMissing x (vec_items u.states) n) e why)
 not_answered u m (failure.SetUp v) e sound why = absurd why
+not_answered u m (failure.Sheet v) e sound why = why
 not_answered u m failure.Memory e sound why = tt
 
 -- What is told of the model of a set-up is what is answered about the set-up.

@@ -32,6 +32,7 @@ abbrev pub Untold : List State → ℕ → Failure → Type 0
 Untold m s (failure.Word w) = ⊥
 Untold m s (failure.State n) = (n.state ≡ s) × (n.states ≡ length m) × (length m ≤ s)
 Untold m s (failure.SetUp f) = ⊥
+Untold m s (failure.Sheet f) = ⊥
 Untold m s failure.Memory = Unit {0}
 
 -- The answers about several states, in their order.
@@ -53,4 +54,5 @@ abbrev pub NotTold : List State → List ℕ → Failure → Type 0
 NotTold m ss (failure.Word w) = ⊥
 NotTold m ss (failure.State n) = FirstMissing m ss n
 NotTold m ss (failure.SetUp f) = ⊥
+NotTold m ss (failure.Sheet f) = ⊥
 NotTold m ss failure.Memory = Unit {0}

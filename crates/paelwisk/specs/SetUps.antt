@@ -28,4 +28,5 @@ abbrev pub NotAnswered : SetUp → Failure → Type 0
 NotAnswered u (failure.Word w) = ⊥
 NotAnswered u (failure.State n) = (fault_of u ≡ None) × FirstMissing (meaning_of u) (vec_items u.states) n
 NotAnswered u (failure.SetUp f) = fault_of u ≡ Some f
+NotAnswered u (failure.Sheet f) = ⊥
 NotAnswered u failure.Memory = Unit {0}

@@ -1,6 +1,8 @@
 // The commands there are, and how they are used.
-ghost use Rattle.std.specs.Prelude.{◌≡◌, codes, MatchOption, ◌≢◌};
-ghost use Rattle.paelwisk.specs.Commands.{sheet_command_name};
+ghost use Rattle.paelwisk.specs.Commands.{ReadsCommand, ReadsSheetCommand};
+
+use crate::names::UnknownName;
+use std::str::FromStr;
 
 // What the program can be asked to do.
 #[derive(Clone, Copy, PartialEq, Eq, Debug)]
@@ -22,28 +24,32 @@ impl Command {
   show SHEET       the states and the prices of a sheet: paelwisk show examples/p.sheet
   copy SHEET OUT   reads a sheet and writes it again to the file OUT: paelwisk copy examples/p.sheet copy.sheet
   best SHEET RULE  the best cost of every state, RULE is largest or sum: paelwisk best examples/p.sheet largest";
+}
 
-    // The command of a name.
-    pub fn named(name: &str) -> Option<Command>
-        ensures { MatchOption result (name.now ≢ codes "valves") (λ c. (c ≡ Command.Valves) × (name.now ≡ codes "valves")) }
-    {
+impl FromStr for Command {
+    type Err = UnknownName;
+
+    ghost from_str_gives = { ReadsCommand };
+
+    fn from_str(name: &str) -> Result<Command, UnknownName> {
         match name {
-            "valves" => Some(Command::Valves),
-            _ => None,
+            "valves" => Ok(Command::Valves),
+            _ => Err(UnknownName),
         }
     }
 }
 
-impl SheetCommand {
-    // The command about a sheet of a name.
-    pub fn named(name: &str) -> Option<SheetCommand>
-        ensures { MatchOption result ((c : SheetCommand) → name.now ≢ sheet_command_name c) (λ c. name.now ≡ sheet_command_name c) }
-    {
+impl FromStr for SheetCommand {
+    type Err = UnknownName;
+
+    ghost from_str_gives = { ReadsSheetCommand };
+
+    fn from_str(name: &str) -> Result<SheetCommand, UnknownName> {
         match name {
-            "show" => Some(SheetCommand::Show),
-            "copy" => Some(SheetCommand::Copy),
-            "best" => Some(SheetCommand::Best),
-            _ => None,
+            "show" => Ok(SheetCommand::Show),
+            "copy" => Ok(SheetCommand::Copy),
+            "best" => Ok(SheetCommand::Best),
+            _ => Err(UnknownName),
         }
     }
 }

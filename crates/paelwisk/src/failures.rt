@@ -1,11 +1,12 @@
 // Why a command gives no answers.
 ghost use Rattle.std.specs.Prelude.{◌≡◌};
 ghost use Rattle.paelwisk.specs.Failures.{is_refusal};
-ghost use Rattle.paelwisk.specs.declared.failures.Failure.TheVariants.{Word, State, SetUp, Memory};
+ghost use Rattle.paelwisk.specs.declared.failures.Failure.TheVariants.{Word, State, SetUp, Sheet, Memory};
 
 use crate::words::BadWord;
 use std::alloc::{AllocError, AllocFailed};
 use std::fmt;
+use transfer::TransferFault;
 use valve::ValveFault;
 
 // A state that is asked about and not there.
@@ -31,6 +32,7 @@ pub enum Failure<'t> {
     Word(BadWord<'t>),
     State(NoState),
     SetUp(ValveFault),
+    Sheet(TransferFault),
     Memory,
 }
 
@@ -39,10 +41,15 @@ impl Failure<'_> {
     pub fn is_refusal(&self) -> bool
         ensures { result ≡ is_refusal self.now }
     {
-        matches!(*self, Failure::SetUp(_))
+        match *self {
+            Failure::SetUp(_) => true,
+            Failure::Sheet(fault) => fault.refusal().is_some(),
+            _ => false,
+        }
     }
 }
 
+// A clause says which variant a `?` makes, and a derived `From` has no contract.
 impl<'t> From<BadWord<'t>> for Failure<'t> {
     ghost from_gives = { λ w r. r ≡ Word w };
 
@@ -55,7 +62,15 @@ impl From<ValveFault> for Failure<'_> {
     ghost from_gives = { λ f r. r ≡ SetUp f };
 
     fn from(fault: ValveFault) -> Self {
-        Failure::SetUp(fault)
+        Self::SetUp(fault)
+    }
+}
+
+impl From<TransferFault> for Failure<'_> {
+    ghost from_gives = { λ f r. r ≡ Sheet f };
+
+    fn from(fault: TransferFault) -> Self {
+        Self::Sheet(fault)
     }
 }
 
@@ -63,16 +78,7 @@ impl From<AllocError> for Failure<'_> {
     ghost from_gives = { λ _ r. r ≡ Memory };
 
     fn from(_error: AllocError) -> Self {
-        Failure::Memory
-    }
-}
-
-// A text in memory cannot be written where there is no memory.
-impl From<fmt::Error> for Failure<'_> {
-    ghost from_gives = { λ _ r. r ≡ Memory };
-
-    fn from(_error: fmt::Error) -> Self {
-        Failure::Memory
+        Self::Memory
     }
 }
 
@@ -80,7 +86,7 @@ impl<T: Drop> From<AllocFailed<T>> for Failure<'_> {
     ghost from_gives = { λ _ r. r ≡ Memory };
 
     fn from(_error: AllocFailed<T>) -> Self {
-        Failure::Memory
+        Self::Memory
     }
 }
 
@@ -89,7 +95,11 @@ impl fmt::Display for Failure<'_> {
         match *self {
             Failure::Word(word) => write!(f, "{word}"),
             Failure::State(state) => write!(f, "{state}"),
-            Failure::SetUp(fault) => write!(f, "{} ({})", fault.refusal(), fault.words()),
+            Failure::SetUp(fault) => write!(f, "{} ({fault})", fault.refusal()),
+            Failure::Sheet(fault) => match fault.refusal() {
+                Some(refusal) => write!(f, "{refusal} ({fault})"),
+                None => write!(f, "{fault}"),
+            },
             Failure::Memory => write!(f, "out of memory"),
         }
     }

@@ -3,9 +3,12 @@
 
 use commands::{Command, SheetCommand};
 use failures::Failure;
+use names::UnknownName;
 use std::process::ExitCode;
 use std::{env, io};
 
+// The words that stand for something that can be asked for.
+mod names;
 // The commands there are.
 mod commands;
 // Why a command gives no answers.
@@ -51,9 +54,9 @@ fn obey(
     first: Option<String>,
     second: Option<String>,
 ) -> Result<(), Ended> {
-    match (Command::named(name), first, second) {
-        (Some(Command::Valves), None, None) => ask_valves(rt),
-        (None, Some(sheet), last) => obey_about_sheet(rt, name, sheet.as_str(), last),
+    match (name.parse::<Command>(), first, second) {
+        (Ok(Command::Valves), None, None) => ask_valves(rt),
+        (Err(UnknownName), Some(sheet), last) => obey_about_sheet(rt, name, sheet.as_str(), last),
         _ => tell_usage(rt),
     }
 }
@@ -65,10 +68,10 @@ fn obey_about_sheet(
     sheet: &str,
     last: Option<String>,
 ) -> Result<(), Ended> {
-    match (SheetCommand::named(name), last) {
-        (Some(SheetCommand::Show), None) => sheets::show(rt, sheet),
-        (Some(SheetCommand::Copy), Some(out)) => sheets::copy(rt, sheet, out.as_str()),
-        (Some(SheetCommand::Best), Some(rule)) => sheets::best(rt, sheet, rule.as_str()),
+    match (name.parse::<SheetCommand>(), last) {
+        (Ok(SheetCommand::Show), None) => sheets::show(rt, sheet),
+        (Ok(SheetCommand::Copy), Some(out)) => sheets::copy(rt, sheet, out.as_str()),
+        (Ok(SheetCommand::Best), Some(rule)) => sheets::best(rt, sheet, rule.as_str()),
         _ => tell_usage(rt),
     }
 }

@@ -1,6 +1,7 @@
 // The commands about sheets: each reads a file, asks the libraries and prints what they answer.
-use crate::Ended;
+use crate::names::RuleName;
 use crate::words::BadWord;
+use crate::{Ended, tell};
 use cost::{Largest, Rule, Sum};
 use std::fs;
 use texts::{best_sheet, show_sheet};
@@ -14,41 +15,34 @@ pub fn show(rt: &HostRuntime, path: &str) -> Result<(), Ended> {
 
 // Prints the best cost of every state of a sheet's model, by the rule of a name.
 pub fn best(rt: &HostRuntime, path: &str, rule: &str) -> Result<(), Ended> {
-    match rule {
-        "largest" => {
-            let sheet = read(rt, path)?;
-            print(rt, best_sheet(rt.alloc(), &sheet, &Largest))
-        }
-        "sum" => {
-            let sheet = read(rt, path)?;
-            print(rt, best_sheet(rt.alloc(), &sheet, &Sum))
-        }
-        _ => {
-            let word = BadWord {
-                expected: "the rule 'largest' or 'sum'",
-                came: Some(rule),
-            };
-            rt.eprintln(word)?;
-            Err(Ended)
-        }
+    let Ok(name) = rule.parse::<RuleName>() else {
+        let word = BadWord {
+            expected: RuleName::EXPECTED,
+            came: Some(rule),
+        };
+        return tell(rt, word.into());
+    };
+    let sheet = read(rt, path)?;
+    // A rule's function belongs to its type, so each arm calls an instance of its own.
+    match name {
+        RuleName::Largest => print(rt, best_sheet(rt.alloc(), &sheet, &Largest)),
+        RuleName::Sum => print(rt, best_sheet(rt.alloc(), &sheet, &Sum)),
     }
 }
 
 // Reads a sheet and writes it again to another file.
 pub fn copy(rt: &HostRuntime, path: &str, out: &str) -> Result<(), Ended> {
     let sheet = read(rt, path)?;
-    match copy_sheet(rt.alloc(), &sheet) {
-        Ok(copy) => {
-            let count = copy.len();
-            if let Err(error) = fs::write(rt, out, copy.as_slice()) {
-                eprintln!(rt; "expected a file that can be written, but '{out}' came: {error}")?;
-                return Err(Ended);
-            }
-            println!(rt; "wrote {count} bytes")?;
-            Ok(())
-        }
-        Err(fault) => tell(rt, fault),
+    let copy = match copy_sheet(rt.alloc(), &sheet) {
+        Ok(copy) => copy,
+        Err(fault) => return tell(rt, fault.into()),
+    };
+    if let Err(error) = fs::write(rt, out, &copy) {
+        eprintln!(rt; "expected a file that can be written, but '{out}' came: {error}")?;
+        return Err(Ended);
     }
+    println!(rt; "wrote {} bytes", copy.len())?;
+    Ok(())
 }
 
 // The bytes of a file.
@@ -66,16 +60,6 @@ fn read(rt: &HostRuntime, path: &str) -> Result<Vec<u8>, Ended> {
 fn print(rt: &HostRuntime, answer: Result<String, TransferFault>) -> Result<(), Ended> {
     match answer {
         Ok(text) => Ok(rt.print(text)?),
-        Err(fault) => tell(rt, fault),
+        Err(fault) => tell(rt, fault.into()),
     }
-}
-
-// A refusal is an answer of the library, and goes where answers go.
-fn tell(rt: &HostRuntime, fault: TransferFault) -> Result<(), Ended> {
-    let words = fault.words();
-    match fault.refusal() {
-        Some(refusal) => println!(rt; "{refusal} ({words})")?,
-        None => eprintln!(rt; "{words}")?,
-    }
-    Err(Ended)
 }

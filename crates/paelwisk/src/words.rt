@@ -1,5 +1,6 @@
 // The words of an input, read one after another.
 ghost use Rattle.std.specs.Prelude.{◌≡◌, ◌<◌, ◌≤◌, true, false, length, is_ok, IfOk, Ok, MatchBool, ◌==◌};
+ghost use Rattle.std.specs.Result.{result_ok};
 ghost use Rattle.paelwisk.specs.Words.{First, left};
 
 use std::fmt;
@@ -62,8 +63,8 @@ impl<'w, 't> Words<'w, 't> {
         }
     }
 
-    // Reads the next word, which has to be a number; `expected` says which numbers there are.
-    pub fn number<N: FromStr>(&mut self, expected: &'static str) -> Result<N, BadWord<'t>>
+    // Reads the next word, which has to stand for a value; `expected` says which values there are.
+    pub fn parse<N: FromStr>(&mut self, expected: &'static str) -> Result<N, BadWord<'t>>
     where
         N::Err: Drop,
         ensures read { IfOk result (λ n. First (λ w. N.from_str_gives w (Ok n)) self.old.rest.now) }
@@ -73,13 +74,9 @@ impl<'w, 't> Words<'w, 't> {
         let [first, rest @ ..] = self.rest else {
             return Err(self.bad(expected));
         };
-        match first.parse::<N>() {
-            Ok(number) => {
-                self.rest = rest;
-                Ok(number)
-            }
-            Err(_) => Err(self.bad(expected)),
-        }
+        let value = first.parse::<N>().map_err(|_| self.bad(expected))?;
+        self.rest = rest;
+        Ok(value)
     }
 
     // Where no word may be left.
@@ -93,15 +90,11 @@ impl<'w, 't> Words<'w, 't> {
         }
     }
 
-    // Where the next word has to be good.
-    pub fn require(&self, good: bool, expected: &'static str) -> Result<(), BadWord<'t>>
-        ensures { is_ok result ≡ good }
+    // The value that the next word stands for, where it has to be within its limits.
+    pub fn require<T>(&self, value: Option<T>, expected: &'static str) -> Result<T, BadWord<'t>>
+        ensures { result_ok result ≡ value }
     {
-        if good {
-            Ok(())
-        } else {
-            Err(self.bad(expected))
-        }
+        value.ok_or(self.bad(expected))
     }
 
     // What is wrong with the next word.

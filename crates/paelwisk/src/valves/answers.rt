@@ -59,9 +59,7 @@ fn about(heap: Global, model: &ValveModel, state: usize) -> Result<Answer, Failu
 fn splits(heap: Global, model: &ValveModel, state: usize) -> Result<Vec<Option<Split>>, AllocError>
     ensures { IfOk result (λ v. map action_of v.items ≡ actions (state_at (meaning_of model.now) state)) }
 {
-    let mut splits = Vec::new(heap);
-    for test in 0..model.actions(state) {
-        splits.push(model.split(state, test))?;
-    }
-    Ok(splits)
+    (0..model.actions(state))
+        .map(|test| model.split(state, test))
+        .collect(heap)
 }

@@ -5,12 +5,11 @@ ghost use Rattle.paelwisk.specs.Answers.{action_of};
 ghost use Rattle.paelwisk.specs.Lines.{action_text, tests_text, answer_text};
 
 use super::answers::{Answer, Finding};
-use std::alloc::Global;
-use std::fmt;
+use std::alloc::{AllocError, Global};
 use valve::Split;
 
 // The lines of answers, one after another.
-pub fn of_answers(heap: Global, answers: &[Answer]) -> Result<String, fmt::Error>
+pub fn of_answers(heap: Global, answers: &[Answer]) -> Result<String, AllocError>
     ensures { IfOk result (λ t. string_bytes t ≡ flat_map answer_text answers.now) }
 {
     let mut lines = String::new(heap);
@@ -21,12 +20,12 @@ pub fn of_answers(heap: Global, answers: &[Answer]) -> Result<String, fmt::Error
 }
 
 // Adds the lines of an answer.
-fn write_answer(lines: &mut String, answer: &Answer) -> fmt::Result
+fn write_answer(lines: &mut String, answer: &Answer) -> Result<(), AllocError>
     ensures { OnOk result (string_bytes lines.new ≡ string_bytes lines.old ++ answer_text answer.now) }
 {
     let state = answer.state;
     match &answer.finding {
-        Finding::End(cost) => Ok(writeln!(lines, "state {state} end {cost}")?),
+        Finding::End(cost) => writeln!(lines, "state {state} end {cost}"),
         Finding::Open(splits) => {
             writeln!(lines, "state {state} open")?;
             write_tests(lines, splits)
@@ -35,7 +34,7 @@ fn write_answer(lines: &mut String, answer: &Answer) -> fmt::Result
 }
 
 // Adds a line for each test, numbered from 0.
-fn write_tests(lines: &mut String, splits: &[Option<Split>]) -> fmt::Result
+fn write_tests(lines: &mut String, splits: &[Option<Split>]) -> Result<(), AllocError>
     ensures { OnOk result (string_bytes lines.new ≡ string_bytes lines.old ++ tests_text 0 splits.now) }
 {
     for (test, split) in splits.iter().enumerate() {
@@ -45,7 +44,7 @@ fn write_tests(lines: &mut String, splits: &[Option<Split>]) -> fmt::Result
 }
 
 // Adds the line of a test.
-fn write_test(lines: &mut String, test: usize, split: Option<Split>) -> fmt::Result
+fn write_test(lines: &mut String, test: usize, split: Option<Split>) -> Result<(), AllocError>
     ensures { OnOk result (string_bytes lines.new ≡ string_bytes lines.old ++ action_text test (action_of split)) }
 {
     match split {
@@ -55,7 +54,7 @@ fn write_test(lines: &mut String, test: usize, split: Option<Split>) -> fmt::Res
                 smaller,
                 larger,
             },
-        ) => Ok(writeln!(lines, "test {test} task {task} -> {smaller} {larger}")?),
-        None => Ok(writeln!(lines, "test {test} barred")?),
+        ) => writeln!(lines, "test {test} task {task} -> {smaller} {larger}"),
+        None => writeln!(lines, "test {test} barred"),
     }
 }

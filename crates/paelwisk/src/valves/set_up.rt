@@ -1,10 +1,11 @@
 // A valve set-up as it is read.
 ghost use Rattle.std.specs.Prelude.{◌≡◌, ◌<◌, ◌≤◌, true, length, is_some, IfOk};
-ghost use Rattle.paelwisk.specs.Asks.{Within};
 
-use super::asks::{Ask, RuleName};
+use super::asks::Ask;
 use crate::failures::Failure;
+use crate::names::RuleName;
 use crate::words::{BadWord, Words};
+use cost::{Price, Task};
 use std::alloc::Global;
 use valve::Test;
 
@@ -47,11 +48,11 @@ pub fn read<'t>(heap: Global, mut words: Words<'_, 't>) -> Result<SetUp, Failure
 // Reads how many candidates there are, and the repair cost of each.
 fn read_repairs<'t>(heap: Global, words: &mut Words<'_, 't>) -> Result<Vec<u32>, Failure<'t>> {
     words.keyword("candidates", "the word 'candidates'")?;
-    let count: usize = words.number("the number of candidates")?;
+    let count: usize = words.parse("the number of candidates")?;
     words.keyword("repair", "the word 'repair'")?;
     let mut repairs = Vec::new(heap);
     for _ in 0..count {
-        let repair: u32 = words.number(
+        let repair: u32 = words.parse(
             "the repair cost of each candidate, a number up to 4294967295",
         )?;
         repairs.push(repair)?;
@@ -72,8 +73,8 @@ fn read_tests<'t>(heap: Global, words: &mut Words<'_, 't>) -> Result<Vec<Test>, 
 fn read_test<'t>(words: &mut Words<'_, 't>) -> Result<Test, BadWord<'t>>
     ensures { length words.new.rest.now ≤ length words.old.rest.now }
 {
-    let task = words.number("the task of a test, a number up to 255")?;
-    let set = words.number("the set of a test, a number up to 65535")?;
+    let task = words.parse("the task of a test, a number up to 255")?;
+    let set = words.parse("the set of a test, a number up to 65535")?;
     Ok(Test { task, set })
 }
 
@@ -81,7 +82,7 @@ fn read_test<'t>(words: &mut Words<'_, 't>) -> Result<Test, BadWord<'t>>
 fn read_states<'t>(heap: Global, words: &mut Words<'_, 't>) -> Result<Vec<usize>, Failure<'t>> {
     let mut states = Vec::new(heap);
     while words.accept("state") {
-        let state: usize = words.number("the number of a state")?;
+        let state: usize = words.parse("the number of a state")?;
         states.push(state)?;
     }
     Ok(states)
@@ -103,8 +104,7 @@ fn read_ask<'t>(words: &mut Words<'_, 't>) -> Result<Option<Ask>, BadWord<'t>>
     if words.accept("price") {
         Ok(Some(read_price(words)?))
     } else if words.accept("best") {
-        let rule = read_rule(words)?;
-        Ok(Some(Ask::Best(rule)))
+        Ok(Some(Ask::Best(words.parse(RuleName::EXPECTED)?)))
     } else {
         Ok(None)
     }
@@ -112,25 +112,11 @@ fn read_ask<'t>(words: &mut Words<'_, 't>) -> Result<Option<Ask>, BadWord<'t>>
 
 // Reads a task and its price, which have to be within their limits.
 fn read_price<'t>(words: &mut Words<'_, 't>) -> Result<Ask, BadWord<'t>>
-    ensures within { IfOk result Within }
-    ensures no_more { length words.new.rest.now ≤ length words.old.rest.now }
-{
-    let at_task = *words;
-    let task: u8 = words.number(TASK)?;
-    at_task.require(task < 64, TASK)?;
-    let at_price = *words;
-    let price: u16 = words.number(PRICE)?;
-    at_price.require(1 <= price && price <= 10_000, PRICE)?;
-    Ok(Ask::Price(task, price))
-}
-
-// Reads the name of a rule.
-fn read_rule<'t>(words: &mut Words<'_, 't>) -> Result<RuleName, BadWord<'t>>
     ensures { length words.new.rest.now ≤ length words.old.rest.now }
 {
-    if words.accept("largest") {
-        return Ok(RuleName::Largest);
-    }
-    words.keyword("sum", "the rule 'largest' or 'sum'")?;
-    Ok(RuleName::Sum)
+    let at_task = *words;
+    let task = at_task.require(Task::new(words.parse(TASK)?), TASK)?;
+    let at_price = *words;
+    let price = at_price.require(Price::new(words.parse(PRICE)?), PRICE)?;
+    Ok(Ask::Price(task, price))
 }

@@ -9,7 +9,7 @@ loop-state-init c = sym (append-nil _)
 
 pub loop-state-preserved : goal.loop-state-preserved
 loop-state-preserved c =
-    bests_more c.args.rule (bounds_of c.args.costs.now) c.args.states.now c.loop-state.state-index _ _ _ _ c.loop-state-test.true c.loop-state.invariant c.cost_at.ensures c.in_ok-write_best.ensures
+    bests_more c.args.rule (bounds_of c.args.costs.now) c.args.states.now c.loop-state.state-index _ _ _ _ c.loop-state-test.true c.loop-state.invariant c.bound.ensures c.in_ok-write_best.ensures
 
 pub returns : goal.returns
 returns c = search (rules, take_all)
