@@ -1,7 +1,7 @@
 -- How the lines of best costs are put together.
-use Rattle.std.proofs.Common.{◌≡◌, ℕ, ◌+◌, ◌<◌, ◌≤◌, List, [], ◌∷◌, ◌++◌, length, get_or, take, drop, replicate, sym, refl, ap, ◌∙◌, subst}
+use Rattle.std.proofs.Common.{◌≡◌, ℕ, ◌+◌, ◌<◌, ◌≤◌, List, [], ◌∷◌, ◌++◌, length, get_or, drop, replicate, sym, refl, ap, ◌∙◌, subst}
 use Rattle.std.specs.List.{flat_map}
-use Rattle.std.proofs.lemmas.List.{append_assoc, append-nil, drop_all, drop_more, flat_map_more, take_more}
+use Rattle.std.proofs.lemmas.List.{append_assoc, append-nil, drop_all, drop_more}
 use Rattle.cost.specs.declared.prices.Price.{Price}
 use Rattle.cost.specs.declared.prices.Task.{Task}
 use Rattle.model.specs.Meaning.{State}
@@ -10,17 +10,6 @@ use Rattle.paelwisk.specs.Lines.{lines_about}
 use Rattle.paelwisk.specs.declared.valves.asks.Ask.{Ask}
 use Rattle.paelwisk.specs.declared.valves.asks.Ask.TheVariants as ask
 use Rattle.paelwisk.specs.declared.names.RuleName.{RuleName}
-
--- The line of one more state.
-pub bests_more : (r : RuleName) (v : ℕ → ℕ) (ss : List ℕ) (i c : ℕ) (start old new : List ℕ) → i < length ss → old ≡ start ++ flat_map (λ s. best_text r s (v s)) (take i ss) → c ≡ v (get_or ss i 0) → new ≡ old ++ best_text r (get_or ss i 0) c → new ≡ start ++ flat_map (λ s. best_text r s (v s)) (take (i + 1) ss)
-bests_more r v ss i c start old new within before here e =
-    let f : ℕ → List ℕ = λ s. best_text r s (v s) in
-    let step : flat_map f (take i ss) ++ f (get_or ss i 0) ≡ flat_map f (take (i + 1) ss) = rw (take_more ss i 0 within) (flat_map_more f [] (take i ss) (get_or ss i 0)) in
-    e
-    ∙ (ap (λ n. old ++ best_text r (get_or ss i 0) n) here
-    ∙ (ap (λ t. t ++ f (get_or ss i 0)) before
-    ∙ (append_assoc start (flat_map f (take i ss)) (f (get_or ss i 0))
-    ∙ ap (λ t. start ++ t) step)))
 
 -- What is told so far, whatever is told after it, answers all that is asked.
 abbrev pub Goes : List State → List ℕ → List Ask → ℕ → List ℕ → List ℕ → Type 0
@@ -71,9 +60,3 @@ all_asked m ss asks i ps old new past before = record {
 -- What is told after the lines about the states.
 pub all_lines : (m : List State) (ss : List ℕ) (asks : List Ask) (old new : List ℕ) → old ≡ lines_about m ss → Replied m ss asks old new → AllLines m ss asks new
 all_lines m ss asks old new e h = subst (λ (o : List ℕ). Replied m ss asks o new) e h
-
--- The same is asked of the same model.
-pub same_lines : (m n : List State) (ss us : List ℕ) (asks others : List Ask) (t : List ℕ) → m ≡ n → ss ≡ us → asks ≡ others → AllLines m ss asks t → AllLines n us others t
-same_lines m n ss us asks others t em es ea h =
-    subst (λ (x : List Ask). AllLines n us x t) ea
-    (subst (λ (x : List ℕ). AllLines n x asks t) es (subst (λ (x : List State). AllLines x ss asks t) em h))

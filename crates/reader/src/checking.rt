@@ -19,6 +19,8 @@ pub(crate) fn check(sheet: &[u8]) -> Result<Due, SheetFault>
     }
     let mut due = Due::start();
     let mut rest = sheet;
+    // The stage and the rest go on together here and in `fill`: a struct of both would be taken apart
+    // again by each, since the one stops at a fault and the other writes.
     while !rest.is_empty() {
         let next = next_field(rest, &due, sheet.len() - rest.len())?;
         due = next.due;

@@ -75,7 +75,7 @@ fn write_actions<M: Model>(lines: &mut String, model: &M, state: usize) -> Resul
     Ok(())
 }
 
-// Adds the line of an action.
+// Adds the line of an action. A model, a state and an action go together as its questions ask for them.
 fn write_action<M: Model>(
     lines: &mut String,
     model: &M,

@@ -74,7 +74,8 @@ fn put_actions<M: Model>(page: &mut Page<'_>, model: &M, state: usize)
     }
 }
 
-// Writes an action, unless it is barred.
+// Writes an action, unless it is barred. A model, a state and an action go together as its questions
+// ask for them, and a struct of the three would be taken apart by each.
 #[tactic(auto, using(crate::proofs::Limits::outcomes_few))]
 fn put_action<M: Model>(page: &mut Page<'_>, model: &M, state: usize, action: usize)
     requires { Opens (M.Model.meaning model.now) }

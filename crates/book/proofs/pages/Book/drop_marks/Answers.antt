@@ -8,9 +8,6 @@ use Rattle.book.proofs.PageParts.{pages_same}
 use Rattle.book.proofs.Firsts.{first_by_more, first_by_part}
 use Rattle.book.proofs.pages.Book.drop_marks.Goals as goal
 
-pub loop-state-init : goal.loop-state-init
-loop-state-init g c = refl
-
 pub loop-state-preserved : goal.loop-state-preserved
 loop-state-preserved g c =
     let f : ℕ → Bool = λ s. is_end (state_at (g.M.Model.meaning c.args.model.now) s) in

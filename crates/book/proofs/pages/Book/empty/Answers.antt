@@ -1,4 +1,4 @@
-use Rattle.std.proofs.Common.{◌≡◌, ◌≤◌, ℕ, ◌<◌, ◌++◌, cond, length, get_or, take, drop, sym, refl, ap, ◌∙◌, ap₂, subst, arith}
+use Rattle.std.proofs.Common.{◌≡◌, ◌≤◌, ℕ, ◌<◌, ◌++◌, cond, length, get_or, take, drop, sym, ap, ◌∙◌, ap₂, subst, arith}
 use Rattle.std.specs.List.{take-map}
 use Rattle.std.proofs.lemmas.List.{length-map, length-take-le, get_or-take}
 use Rattle.cost.specs.declared.amount.Cost.{Cost}
@@ -9,9 +9,6 @@ use Rattle.book.proofs.Firsts.{numbers, as_long, cost_written, cost_unwritten, c
 use Rattle.book.proofs.OpenedBooks.{emptied_sound}
 use Rattle.book.proofs.PageParts.{pages_same}
 use Rattle.book.proofs.pages.Book.empty.Goals as goal
-
-pub loop-state-init : goal.loop-state-init
-loop-state-init g c = refl
 
 pub loop-state-preserved : goal.loop-state-preserved
 loop-state-preserved g c =

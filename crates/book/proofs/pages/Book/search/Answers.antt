@@ -1,5 +1,6 @@
-use Rattle.std.proofs.Common.{◌≡◌, [], ◌∷◌, ◌<◌, true, false, Some, Result, Ok, Err, MatchResult, length, sym, ap, ◌∙◌, subst, arith, length-append}
+use Rattle.std.proofs.Common.{◌≡◌, [], ◌∷◌, ◌<◌, false, Some, Result, Ok, Err, MatchResult, length, sym, ap, ◌∙◌, subst, rules, arith, length-append}
 use Rattle.std.proofs.lemmas.Bool.{true≢false}
+use Rattle.std.proofs.lemmas.Result.{MatchResult-at_ok}
 use Rattle.std.specs.Result.{is_ok, result_ok}
 use Rattle.cost.specs.Prices.{figures}
 use Rattle.book.specs.Looks.{Seen}
@@ -10,10 +11,6 @@ use Rattle.book.proofs.Underway.{ready}
 use Rattle.book.proofs.Unmarked.{unmarked, unmarked_less}
 use Rattle.book.proofs.Wholes.{page_whole}
 use Rattle.book.proofs.pages.Book.search.Goals as goal
-
-went : {A E : Type 0} (P Q : Type 0) (r : Result A E) → is_ok r ≡ true → MatchResult r (λ _. P) (λ _. Q) → P
-went P Q (Ok x) e h = h
-went P Q (Err x) e h = absurd (true≢false (sym e))
 
 stuck : {A E : Type 0} (P Q : Type 0) (r : Result A E) → is_ok r ≡ false → MatchResult r (λ _. P) (λ _. Q) → Q
 stuck P Q (Ok x) e h = absurd (true≢false e)
@@ -59,7 +56,7 @@ loop-allowance-preserved-in-Mark g c =
 
 pub loop-allowance-smaller : goal.loop-allowance-smaller
 loop-allowance-smaller g c =
-    let entered : Entered c.loop-allowance.trail c.in-Enter.outcome c.enter.new.self = went _ _ c.enter.result (sym c.map_err.ensures.variant ∙ ap is_ok c.in_ok-map_err-in-Enter.was) c.enter.ensures in
+    let entered : Entered c.loop-allowance.trail c.in-Enter.outcome c.enter.new.self = MatchResult-at_ok {r = c.enter.result} _ _ (tt {0}) (search (rules, c.map_err.ensures, c.in_ok-map_err-in-Enter.was)) c.enter.ensures in
     let longer = ap length entered.states ∙ length-append c.loop-allowance.trail.states.items (c.in-Enter.outcome ∷ []) in
     omega (arith, longer, entered.room)
 
@@ -67,7 +64,7 @@ pub loop-allowance-preserved : goal.loop-allowance-preserved
 loop-allowance-preserved g c =
     let seen = subst (Seen (g.M.Model.meaning c.args.problem.now.model.now) g.R.Rule.value (figures c.args.problem.now.prices.now) (page c.loop-allowance.self) c.last-state.result) (c.ok_or.ensures.ok_part ∙ ap result_ok c.in_ok-look.was ∙ ap Some c.in-Enter.is) c.look.ensures in
     going_enters (g.M.Model.meaning c.args.problem.now.model.now) g.R.Rule.value (figures c.args.problem.now.prices.now) c.args.start c.args.cap.value c.args.allowance.value (page c.args.self.now) (page c.loop-allowance.self) c.loop-allowance.raises c.loop-allowance.trail c.loop-allowance.invariant c.loop-allowance-test.ensures c.last-state.result c.last-state.ensures c.in-Enter.outcome seen c.enter.new.self
-    (went _ _ c.enter.result (sym c.map_err.ensures.variant ∙ ap is_ok c.in_ok-map_err-in-Enter.was) c.enter.ensures)
+    (MatchResult-at_ok {r = c.enter.result} _ _ (tt {0}) (search (rules, c.map_err.ensures, c.in_ok-map_err-in-Enter.was)) c.enter.ensures)
 
 pub returns-in_err-map_err-in-Enter : goal.returns-in_err-map_err-in-Enter
 returns-in_err-map_err-in-Enter g c = λ opens there sound.

@@ -1,4 +1,4 @@
-use Rattle.std.proofs.Common.{◌≡◌, ◌≤◌, ◌++◌, length, take, drop, refl, ap, ◌∙◌, ap₂, arith}
+use Rattle.std.proofs.Common.{◌≡◌, ◌≤◌, ◌++◌, length, take, drop, ap, ◌∙◌, ap₂, arith}
 use Rattle.std.proofs.lemmas.List.{length-map, length-take-le}
 use Rattle.cost.specs.declared.amount.Cost.{Cost}
 use Rattle.book.specs.Openings.{first_by, opening_bound}
@@ -6,9 +6,6 @@ use Rattle.book.specs.Pages.{page}
 use Rattle.book.proofs.Firsts.{numbers, as_long, cost_written, costs_part}
 use Rattle.book.proofs.PageParts.{pages_same}
 use Rattle.book.proofs.pages.Book.set_up.Goals as goal
-
-pub loop-state-init : goal.loop-state-init
-loop-state-init g c = refl
 
 pub loop-state-preserved : goal.loop-state-preserved
 loop-state-preserved g c =

@@ -6,16 +6,12 @@ use Rattle.plan.specs.Bests.{Best}
 use Rattle.plan.specs.Bounds.{bounds_of}
 use Rattle.plan.proofs.BoundLists.{bounds_append}
 use Rattle.plan.proofs.Lowering.{settled_best}
-use Rattle.plan.proofs.RoundSteps.{highest_above, no_best_fault}
+use Rattle.plan.proofs.RoundSteps.{highest_above}
 use Rattle.plan.proofs.problems.Problem.best_costs.Goals as goal
 
 pub loop-known-init : goal.loop-known-init
 loop-known-init g c =
     highest_above (g.M.Model.meaning c.args.self.now.model.now) g.R.Rule.value (figures c.args.self.now.prices.now) (sym c.in_ok-check.ensures) g.met.R.Rule.lawful (figures_in_range c.args.self.now.prices.now) c.set_highest.new.costs c.set_highest.ensures
-
-pub returns-clause-fault : goal.returns-clause-fault
-returns-clause-fault g c =
-    sym (no_best_fault (g.M.Model.meaning c.args.self.now.model.now) (length c.args.costs.now) (sym c.in_ok-check.ensures) (omega arith))
 
 pub returns-clause-best : goal.returns-clause-best
 returns-clause-best g c = λ s there.

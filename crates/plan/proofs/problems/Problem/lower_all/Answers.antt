@@ -4,7 +4,7 @@ use Rattle.cost.proofs.Figures.{figures_in_range}
 use Rattle.plan.specs.Bounds.{bounds_of}
 use Rattle.plan.proofs.BoundLists.{bounds_read}
 use Rattle.plan.proofs.Orders.{cost_less, cost_not_less}
-use Rattle.plan.proofs.RoundSteps.{Come, come_lowered, come_kept, come_through}
+use Rattle.plan.proofs.RoundSteps.{Come, come_lowered, come_kept}
 use Rattle.plan.proofs.problems.Problem.lower_all.Goals as goal
 use Rattle.plan.proofs.problems.Problem.lower_all.Goals.{then-lt, else-lt}
 
@@ -33,14 +33,3 @@ loop-state-preserved g c =
           subst (λ x. Come m value prices old x c.if-lt.lowered (s + 1)) (sym w.costs-is) (subst (λ b. Come m value prices old new b (s + 1)) (sym w.lowered-is) turn)
           )
     ]
-
-pub returns : goal.returns
-returns g c =
-    let m = g.M.Model.meaning c.args.self.now.model.now in
-    let value = g.R.Rule.value in
-    let prices = figures c.args.self.now.prices.now in
-    let end : c.loop-state.state ≡ length m = omega arith in
-    record {
-      above = c.loop-state.invariant.above;
-      moved = come_through m value prices c.requires.opens g.met.R.Rule.lawful (figures_in_range c.args.self.now.prices.now) c.args.costs.now c.loop-state.costs c.loop-state.lowered c.loop-state.state end c.loop-state.invariant;
-    }

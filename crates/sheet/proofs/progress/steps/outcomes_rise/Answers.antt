@@ -28,10 +28,3 @@ loop-outcome-preserved c =
     let low : c.loop-outcome.lowest ≤ o = grind (arith, nat_tests) in
     let high : o < c.args.count = grind (arith, nat_tests) in
     sym (rise_more c.args.count c.loop-outcome.lowest (outcomes_in b) k (omega arith) o same low high) ∙ c.loop-outcome.invariant
-
-pub returns : goal.returns
-returns c =
-    let os = outcomes_in c.args.body.now in
-    let many = outcomes_many c.args.body.now _ c.outcomes_in-outcome-items.ensures.value in
-    let all : length os ≤ c.loop-outcome.outcome-index = omega arith in
-    sym (at_drop_all (rising c.args.count c.loop-outcome.lowest) os c.loop-outcome.outcome-index all) ∙ c.loop-outcome.invariant
