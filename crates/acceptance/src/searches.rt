@@ -1,12 +1,14 @@
 // Searches over books: worked examples, and drawn models against their best costs.
 use crate::bests::{TESTS, priced, ring, told};
 use crate::drawn::draw_tables;
+use crate::rows;
 use book::{Allowance, Book, Cap, EstimateFault, SearchFault};
 use cost::{Cost, Largest, Rule, Sum};
 use model::Model;
 use plan::Problem;
 use std::process::Abort;
 use std::test::Fail;
+use table::{StateRow, TableModel};
 use valve::ValveModel;
 
 // How a search ends, as far as a test compares it: no raises where the start is above the cap.
@@ -95,6 +97,32 @@ fn valves_are_searched(rt: HostRuntime) -> Result<(), Fail> {
     assert_eq!(rt; search_new(&largest, limits), Ending::Cost(5));
     assert_eq!(rt; search_new(&sum, limits), Ending::Cost(6));
     Ok(())
+}
+
+// A model that does not open: its first state has 257 actions, of which only the last is cheap.
+#[test]
+fn an_action_whose_number_cannot_be_kept_is_not_followed(rt: HostRuntime) {
+    let mut actions = [rows::action(1, 1, 1); 258];
+    actions[256] = rows::action(0, 0, 1);
+    actions[257] = rows::action(0, 1, 1);
+    let states = [rows::opened(0, 257), rows::opened(257, 1), StateRow::End(0)];
+    let model = TableModel {
+        states: &states,
+        actions: &actions,
+        outcomes: &[1, 2],
+    };
+    let problem = Problem {
+        model: &model,
+        rule: &Largest,
+        prices: &priced(&[1, 5]),
+    };
+    let mut book = Book::new();
+    assert_eq!(rt; book.open(&problem, &[]), Ok(()));
+    assert_eq!(rt;
+        search(&mut book, &problem, (0, 1000, 100)),
+        Ending::Stopped(1)
+    );
+    assert_eq!(rt; (book.bound(0).get(), book.is_planned(1)), (1, false));
 }
 
 // What opening a book of the ring with estimates answers.

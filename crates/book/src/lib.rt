@@ -17,5 +17,5 @@ mod trails;
 pub use answers::{Found, SearchFault};
 pub use estimates::{check_estimates, faulty_estimates};
 pub use faults::EstimateFault;
-pub use limits::{Allowance, Cap, Within};
+pub use limits::{Allowance, Cap, Within, allowance_of, cap_of};
 pub use pages::Book;

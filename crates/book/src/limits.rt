@@ -3,6 +3,8 @@ ghost use Rattle.std.specs.Prelude.{◌≤◌};
 
 mod entries;
 
+pub use entries::{allowance_of, cap_of};
+
 // A whole number from LEAST to MOST.
 #[derive(Clone, Copy, PartialEq, Eq, Debug)]
 pub struct Within<const LEAST: u32, const MOST: u32> {

@@ -3,7 +3,6 @@ ghost use Rattle.std.specs.Prelude.{◌≡◌};
 ghost use Rattle.model.specs.Meaning.{outcomes, action_at};
 ghost use Rattle.model.specs.Trims.{lists, trimmed};
 
-use crate::outcomes::outcomes_of;
 use crate::questions::Model as WorkModel;
 
 // The model under it, with each action barred that lists its own state as an outcome. The test stands in
@@ -17,7 +16,13 @@ pub struct Trim<M> {
 fn lists_itself<M: WorkModel>(model: &M, state: usize, action: usize) -> bool
     ensures { result ≡ lists state (outcomes (action_at (M.Model.meaning model.now) state action)) }
 {
-    outcomes_of(model, state, action).any(|outcome| outcome == state)
+    // By place: over `outcomes_of` it takes twice the time, and Trim asks this for every outcome.
+    for place in 0..model.outcomes(state, action) {
+        if model.outcome(state, action, place) == state {
+            return true;
+        }
+    }
+    false
 }
 
 impl<M: WorkModel> WorkModel for Trim<M> {

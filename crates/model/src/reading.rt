@@ -17,7 +17,8 @@ pub fn first_fault<M: Model>(model: &M) -> Option<ModelFault>
 // Refuses a model for the first thing that is wrong with it. It reads the number of states, then
 // states, actions and outcomes in ascending order, and passes over barred actions.
 pub fn check<M: Model>(model: &M) -> Result<(), ModelFault>
-    ensures { result_err result ≡ first_fault (M.Model.meaning model.now) }
+    ensures value { result_err result ≡ first_fault (M.Model.meaning model.now) }
+    ensures first { FirstFault (M.Model.meaning model.now) (result_err result) }
 {
     let states = model.states();
     if !(1..=4096).contains(&states) {

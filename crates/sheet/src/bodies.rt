@@ -48,3 +48,12 @@ pub fn outcomes_in(body: &[u8]) -> &[[u8; 2]]
     let (outcomes, _) = outcomes.as_chunks();
     outcomes
 }
+
+// The outcome at a place of the body of an action; past the last it is 0.
+pub fn outcome_in(body: &[u8], place: usize) -> u16
+    ensures { result ≡ slice_index (outcomes_in body.now) place }
+{
+    outcomes_in(body)
+        .get(place)
+        .map_or(0, |outcome| u16::from_be_bytes(*outcome))
+}

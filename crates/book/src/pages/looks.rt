@@ -50,9 +50,11 @@ impl Book {
     fn follow<M: Model>(&self, model: &M, state: usize, action: usize) -> Option<Look>
         ensures { Followed (M.Model.meaning model.now) (page self.now) state action result }
     {
+        // An action whose number cannot be kept is not followed, so that nothing is done on its way.
+        let kept = u8::try_from(action).ok()?;
         match self.first_unplanned(model, state, action) {
             Some(outcome) => Some(Look::Enter(u16::try_from(outcome).ok()?)),
-            None => Some(Look::Mark(u8::try_from(action).ok()?)),
+            None => Some(Look::Mark(kept)),
         }
     }
 

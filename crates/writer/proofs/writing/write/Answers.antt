@@ -14,5 +14,5 @@ returns-clause-written c =
     let ps = figures c.args.prices.now in
     let size : c.put_sheet-size.result ≡ length (sheet_of m ps) = counts_below _ _ c.put_sheet-size.ensures.counted (omega arith) in
     let again : c.put_sheet.result ≡ length (sheet_of m ps) = counts_below _ _ c.put_sheet.ensures.counted (omega arith) in
-    let writable : Writable m ps = record { opens = sym c.in_ok-check.ensures; free = table_free c.args.model.now; prices = figures_in_range c.args.prices.now } in
+    let writable : Writable m ps = record { opens = sym c.in_ok-check.ensures.value; free = table_free c.args.model.now; prices = figures_in_range c.args.prices.now } in
     put_written m ps c.put_sheet.result c.args.bytes.now c.put_sheet.new.bytes writable again c.put_sheet.ensures.written (omega arith) (omega arith)
